@@ -1,0 +1,3 @@
+-- Lemmas for the proofs of `kinds`.
+pub mod Reading
+pub mod Filling
