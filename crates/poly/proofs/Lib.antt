@@ -1,0 +1,3 @@
+-- Lemmas for the proofs of `poly`.
+pub mod Made
+pub mod Remainders
