@@ -1,0 +1,2 @@
+-- The lemmas that the proofs of `text` share.
+mod Steps
