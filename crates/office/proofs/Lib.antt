@@ -1,0 +1,4 @@
+-- Lemmas for the proofs of `office`.
+pub mod Naming
+pub mod Parsing
+pub mod Printing
