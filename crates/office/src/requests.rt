@@ -24,11 +24,11 @@ impl Request {
     {
         let line = first_line(input);
         let (name, shares) = header(heap, line)?;
-        let mut reader = Reader {
+        let reader = Reader {
             text: input,
             at: line.len(),
         };
-        let words = words(&mut reader, heap)?;
+        let words = words(reader, heap)?;
         Ok(Request {
             name,
             shares,
@@ -118,6 +118,6 @@ fn header(heap: Global, line: &[u8]) -> Result<(Name, usize), Trouble>
     let Some(first) = reader.token() else {
         return Err(Trouble::Header { at: 0 });
     };
-    let numbers = words(&mut reader, heap)?;
+    let numbers = words(reader, heap)?;
     limited(first.at, named(letter(first.text), &numbers))
 }

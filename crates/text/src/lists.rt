@@ -1,7 +1,5 @@
 // All the tokens of a text as numbers.
 ghost use mathlib.Core.Path.{_≡_};
-ghost use mathlib.Core.List.{[]};
-ghost use Rattle.std.specs.Vec.{made};
 ghost use Rattle.text.specs.Readings.{numbers-of, Gives};
 ghost use Rattle.text.specs.Tokens.{to-come};
 ghost use Rattle.text.specs.declared.lists.WordsError.the-variants.{Bad, Memory};
@@ -36,10 +34,8 @@ pub impl<T: Drop> From<Refused<T>> for WordsError as WordsErrorFromRefused {
 }
 
 // The tokens still to come, as numbers of at most `most`.
-fn up_to(most: u16, reader: &mut Reader, heap: Global) -> Result<Vec<u16>, WordsError>
-    ensures gives { λ r. ⌜ Gives (numbers-of most (to-come (now (reader .entry)))) r ⌝ }
-    ensures ends { λ r. ⌜ made r (λ _. to-come (now (reader .exit)) ≡ []) ⌝ }
-    ensures text { λ _. ⌜ now (now (reader .exit) .text) ≡ now (now (reader .entry) .text) ⌝ }
+fn up_to(most: u16, mut reader: Reader, heap: Global) -> Result<Vec<u16>, WordsError>
+    ensures { λ r. ⌜ Gives (numbers-of most (to-come (reader .entry))) r ⌝ }
 {
     let mut all = Vec::new(heap);
     while let Some(token) = reader.token() {
@@ -50,10 +46,8 @@ fn up_to(most: u16, reader: &mut Reader, heap: Global) -> Result<Vec<u16>, Words
 }
 
 // The tokens still to come, as numbers of 16 bits.
-pub fn words(reader: &mut Reader, heap: Global) -> Result<Vec<u16>, WordsError>
-    ensures gives { λ r. ⌜ Gives (numbers-of 65535 (to-come (now (reader .entry)))) r ⌝ }
-    ensures ends { λ r. ⌜ made r (λ _. to-come (now (reader .exit)) ≡ []) ⌝ }
-    ensures text { λ _. ⌜ now (now (reader .exit) .text) ≡ now (now (reader .entry) .text) ⌝ }
+pub fn words(reader: Reader, heap: Global) -> Result<Vec<u16>, WordsError>
+    ensures { λ r. ⌜ Gives (numbers-of 65535 (to-come (reader .entry))) r ⌝ }
 {
     up_to(u16::MAX, reader, heap)
 }

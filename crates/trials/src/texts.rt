@@ -19,23 +19,22 @@ use text::tokens::Token;
 
 #[test]
 fn reads_words(rt: LibcRuntime) -> Result<(), Fail> {
-    let mut reader = Reader::new(b"\t7 0065535\r\n0");
-    let all = words(&mut reader, rt.alloc())?;
+    let all = words(Reader::new(b"\t7 0065535\r\n0"), rt.alloc())?;
     check(all.len() == 3)?;
     check(all[0] == 7 && all[1] == 65535 && all[2] == 0)?;
-    let none = words(&mut Reader::new(b""), rt.alloc())?;
+    let none = words(Reader::new(b""), rt.alloc())?;
     check(none.is_empty())
 }
 
 #[test]
 fn blames_the_first(rt: LibcRuntime) -> Result<(), Fail> {
-    let large = words(&mut Reader::new(b"1 65536 x"), rt.alloc());
+    let large = words(Reader::new(b"1 65536 x"), rt.alloc());
     let fault = Fault {
         at: 2,
         problem: Problem::TooLarge { most: 65535 },
     };
     check_eq(large.err(), Some(WordsError::Bad(fault)))?;
-    let nul = words(&mut Reader::new(b"1 2\x00 x"), rt.alloc());
+    let nul = words(Reader::new(b"1 2\x00 x"), rt.alloc());
     let fault = Fault {
         at: 2,
         problem: Problem::NotANumber,

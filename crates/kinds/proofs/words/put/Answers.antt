@@ -1,18 +1,15 @@
 -- Each turn writes one word, and an element has as many words as the buffer.
-use borrow.Author.Count.{below-more}
-use mathlib.Core.Logic.{_≢_}
 use mathlib.Core.Path.{_≡_}
-use Prim.Native.Nat.{_<_}
 use native.Mathlib.Omega.{arith}
-use lib.ListN.{length}
-use Rattle.std.proofs.shelf.Lists.{getD-set-same, getD-set-other, ext-getD}
+use lib.ListN.{length, getD}
+use Rattle.std.proofs.shelf.Edits.{fill-by-more}
+use Rattle.std.proofs.shelf.Lists.{ext-getD}
 use Rattle.kinds.proofs.words.put.Needs as need
 
 pub loop-i-again : need.loop-i-again
 loop-i-again g c =
-    below-more _ _
-    (λ k h. let other : k ≢ c .loop-i .i = omega arith in rw getD-set-other (c .loop-i .inv k h))
-    (let within : c .loop-i .i < length (c .loop-i .out) = omega arith in rw getD-set-same (c .word .ensures))
+    let words = g .K·Kind .coding .words (c .args .x .now) in
+    rw (c .word .ensures) (fill-by-more (λ k. getD words k 0) (c .loop-i .out) (c .loop-i .i) 0 (omega arith) (c .loop-i .inv))
 
 pub returns : need.returns
 returns g c =

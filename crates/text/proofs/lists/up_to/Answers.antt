@@ -25,10 +25,7 @@ one-more most m all ns ms n w was ws so takes same reads pushed =
 
 pub loop-token-again : need.loop-token-again
 loop-token-again c =
-    let all = numbers-of (c .args .most) (to-come (c .args .reader .now)) in
+    let all = numbers-of (c .args .most) (to-come (c .args .reader)) in
     let was = vec-items (c .loop-token .all) in
     let now = vec-items (c .push .last .self) in
-    let told = c .in-Some .ensures tt in (
-      one-more _ _ all was now _ _ _ _ (c .loop-token .inv .0) (told .takes) (c .from .ensures) (c .in-Continue-n .ensures tt) (c .in-Continue-push .ensures tt .items),
-      told .text ∙ c .loop-token .inv .1,
-    )
+    one-more _ _ all was now _ _ _ _ (c .loop-token .inv) (c .in-Some .ensures tt .takes) (c .from .ensures) (c .in-Continue-n .ensures tt) (c .in-Continue-push .ensures tt .items)

@@ -8,8 +8,7 @@ use Rattle.text.proofs.lists.up_to.Given as given
 
 abbrev pub Inv-loop-token : given.InvT-loop-token
 Inv-loop-token l =
-    (numbers-of (l .most) (to-come (l .entry .reader)) ≡ after (vec-items (l .all)) (numbers-of (l .most) (to-come (l .reader))))
-    × (l .reader .text .now ≡ l .entry .reader .text .now)
+    numbers-of (l .most) (to-come (l .entry .reader)) ≡ after (vec-items (l .all)) (numbers-of (l .most) (to-come (l .reader)))
 
 abbrev pub μ-loop-token : given.MeasureT-loop-token
 μ-loop-token l = length (to-come (l .reader))

@@ -1,26 +1,25 @@
 -- Each turn writes one number, and there are as many as coefficients.
 use borrow.Author.Needs.{needs}
-use borrow.Author.Count.{below-more}
-use mathlib.Core.Logic.{_≢_}
 use mathlib.Core.Path.{_≡_, sym, _∙_}
-use Prim.Native.Nat.{_<_}
+use Prim.Native.Nat.{ℕ}
 use native.Mathlib.Omega.{arith}
-use lib.IntN.{pos}
+use lib.IntN.{ℤ, pos}
 use lib.ListN.{length}
 use mir.Syntax.{w16}
 use mir.Val.{SFits}
-use Rattle.std.proofs.shelf.Lists.{length-map, getD-map, getD-set-same, getD-set-other, ext-getD}
+use Rattle.std.proofs.shelf.Edits.{fill-by-more}
+use Rattle.std.proofs.shelf.Lists.{length-map, getD-map, ext-getD}
 use Rattle.std.proofs.shelf.Signed.{toZ-ofZ}
 use Rattle.poly.specs.Centred.{centred}
+use Rattle.poly.specs.Elements.{coefficient}
 use Rattle.poly.specs.Modulus.{modulus}
 use Rattle.poly.proofs.elements.Poly.put_centred.Needs as need
 
 pub loop-i-again : need.loop-i-again
 loop-i-again g c =
     let fits : SFits w16 (c .centre .result) = search needs in
-    below-more _ _
-    (λ k h. let other : k ≢ c .loop-i .i = omega arith in rw getD-set-other (c .loop-i .inv k h))
-    (let within : c .loop-i .i < length (c .loop-i .out) = omega arith in rw (getD-set-same, toZ-ofZ) (c .centre .ensures))
+    let f : ℕ → ℤ = λ k. centred (modulus (g .M)) (coefficient (c .args .self .now) k) in
+    rw (toZ-ofZ w16 (c .centre .result) fits, c .centre .ensures) (fill-by-more f (c .loop-i .out) (c .loop-i .i) (pos 0) (omega arith) (c .loop-i .inv))
 
 pub returns : need.returns
 returns g c =
