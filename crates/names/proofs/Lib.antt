@@ -1,2 +1,1 @@
 -- Lemmas for the proofs of `names`, and for those who compare bytes as it does.
-pub mod Testing

@@ -1,4 +1,5 @@
 // The kinds that are put together, by name.
+#![tactic(auto)]
 ghost use Rattle.std.specs.Prelude.{◌≡◌, Some};
 ghost use Rattle.names.specs.Names.{name_text, among, name_of};
 

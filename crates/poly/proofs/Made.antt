@@ -24,11 +24,11 @@ module _ (n m : ℕ) (f : ℕ → ℕ) where
         (fill_by_more (λ k. f k % modulus m) xs i 0 (omega (arith, made.0)) made.1),
   )
 
-  -- the ghost fields of the element with these coefficients
-  pub made_ghosts : (i : ℕ) (xs : List ℕ) → n ≤ i → Made i xs → (length xs ≡ n) × (((k : ℕ) → get_or xs k 0 < modulus m) × Unit {0})
-  made_ghosts i xs h made =
-      let whole : xs ≡ reduced n m f = fill_by_all (λ k. f k % modulus m) xs n 0 made.0 (λ k p. made.1 k (omega arith)) in
-      (made.0, (λ k. subst (λ ys. get_or ys k 0 < modulus m) (sym whole) (reduced_small n m f k), tt))
+  -- each of them is below m
+  pub made_small : (i : ℕ) (xs : List ℕ) → n ≤ i → Made i xs → (k : ℕ) → get_or xs k 0 < modulus m
+  made_small i xs h made k =
+      let whole : xs ≡ reduced n m f = fill_by_all (λ j. f j % modulus m) xs n 0 made.0 (λ j p. made.1 j (omega arith)) in
+      subst (λ ys. get_or ys k 0 < modulus m) (sym whole) (reduced_small n m f k)
 
   pub made_all : (i : ℕ) (x : Poly n m) → n ≤ i → Made i x.coeffs → x ≡ poly n m f
   made_all i x h made = same_poly n m x f (λ k p. made.1 k (omega arith))

@@ -21,7 +21,7 @@ module _ {n m : ℕ} where
 module _ (n m : ℕ) where
   -- and so for two that are made of others
   same_polys : (f g : ℕ → ℕ) → ((i : ℕ) → i < n → f i % modulus m ≡ g i % modulus m) → poly n m f ≡ poly n m g
-  same_polys f g e = same_poly (poly n m f) g (λ i h. poly_at f i h ∙ e i h)
+  same_polys f g e = same_poly n m (poly n m f) g (λ i h. poly_at n m f i h ∙ e i h)
 
 pub laws : (n m : ℕ) → Laws (ops n m)
 laws n m =

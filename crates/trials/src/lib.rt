@@ -1,4 +1,5 @@
 // Examples of what the crates promise, run as tests.
+#![tactic(auto)]
 #[cfg(test)]
 mod elements;
 #[cfg(test)]

@@ -1,4 +1,5 @@
 // Works the cases on standard input, and prints a line with the result of each.
+#![tactic(auto)]
 use anyhow::anyhow;
 use cases::{Explained, answer};
 use std::io::Read;

@@ -5,7 +5,6 @@ use Rattle.std.specs.Str.{bytes_eq}
 use Rattle.names.specs.Names.{name_text, among}
 use Rattle.names.specs.declared.Name.{Name}
 use Rattle.names.specs.declared.Name.TheVariants.{Q3}
-use Rattle.names.proofs.Testing.{tested}
 use Rattle.names.proofs.among.Goals as goal
 
 -- the name at i, whose text is these bytes where t is true
@@ -16,12 +15,12 @@ at_name ns i text bs t h is same =
 
 pub returns-then-eq : goal.returns-then-eq
 returns-then-eq c =
-    sym (at_name _ _ _ _ _ c.loop-name-test.true (c.as-bytes.ensures.value ∙ c.text.ensures) (tested _ _ _ c.eq.ensures ∙ c.if-eq.true))
+    sym (at_name _ _ _ _ _ c.loop-name-test.true (c.as_bytes.ensures.value ∙ c.text.ensures) (sym c.eq.ensures ∙ c.if-eq.true))
     ∙ c.loop-name.invariant
 
 pub loop-name-preserved : goal.loop-name-preserved
 loop-name-preserved c =
-    sym (at_name _ _ _ _ _ c.loop-name-test.true (c.as-bytes.ensures.value ∙ c.text.ensures) (tested _ _ _ c.eq.ensures ∙ c.if-eq.false))
+    sym (at_name _ _ _ _ _ c.loop-name-test.true (c.as_bytes.ensures.value ∙ c.text.ensures) (sym c.eq.ensures ∙ c.if-eq.false))
     ∙ c.loop-name.invariant
 
 pub returns : goal.returns

@@ -15,7 +15,7 @@ returns g c = record {
   x = c.index-operands-0.result;
   y = c.index-operands-1.result;
   words =
-      two g.K.Kind.coding.words c.read-list.new.list _ _ (c.read-list.auto.list ∙ c.requires) c.index-operands-0.is c.index-operands-1.is
-      ∙ c.in-ok-read-list.ensures;
+      two g.K.Kind.coding.words c.read_list.new.list _ _ (c.read_list.auto.list ∙ c.requires) c.index-operands-0.is c.index-operands-1.is
+      ∙ c.in_ok-read_list.ensures;
   product = c.times.ensures;
 }

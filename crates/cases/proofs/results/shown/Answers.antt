@@ -5,5 +5,5 @@ use Rattle.cases.proofs.results.shown.Goals as goal
 
 pub returns : goal.returns
 returns g c =
-    take_at c.show.new.out _ c.in-ok-words.words.len (c.show.auto.out ∙ c.deref-mut.ensures.len)
+    take_at c.show.new.out _ c.in_ok-words.words.len (c.show.auto.out ∙ c.deref_mut.ensures.len)
     ∙ c.in-Ok.ensures.1

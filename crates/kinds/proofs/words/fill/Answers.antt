@@ -6,8 +6,8 @@ use Rattle.kinds.proofs.words.fill.Goals as goal
 pub loop-slot-init : goal.loop-slot-init
 loop-slot-init g c = filled_none g.K.Kind.coding (length c.args.list.now) c.args.words.now c.args.list.now c.requires
 
-pub split-at-requires : goal.split-at-requires
-split-at-requires g c =
+pub split_at-requires : goal.split_at-requires
+split_at-requires g c =
     omega (
       arith,
       c.width-width.ensures,
@@ -17,7 +17,7 @@ split-at-requires g c =
 
 pub loop-slot-preserved : goal.loop-slot-preserved
 loop-slot-preserved g c =
-    simp (c.from-words.ensures, c.split-at.ensures.front, c.split-at.ensures.back, c.width-width.ensures)
+    simp (c.from_words.ensures, c.split_at.ensures.front, c.split_at.ensures.back, c.width-width.ensures)
     (filled_more g.K.Kind.coding (length c.args.list.now) c.args.words.now g.K.Kind.codes
     c.loop-slot.slot-index c.loop-slot.list c.loop-slot.rest.now c.loop-slot-test.true c.loop-slot.auto.list c.loop-slot.invariant)
 

@@ -6,5 +6,5 @@ use Rattle.office.proofs.answers.bits.Goals as goal
 
 pub returns : goal.returns
 returns c =
-    let x = c.in-ok-sum.sum in
-    (x, subst (λ ws. SumOf ops coding c.args.request.now.shares ws x) c.deref.ensures.value c.in-ok-sum.ensures, c.in-ok-text.ensures)
+    let x = c.in_ok-sum.sum in
+    (x, subst (λ ws. SumOf ops coding c.args.request.now.shares ws x) c.deref.ensures.value c.in_ok-sum.ensures, c.in_ok-text.ensures)

@@ -5,5 +5,5 @@ use Rattle.office.proofs.answers.centred_numbers.Goals as goal
 
 pub returns : goal.returns
 returns g c =
-    take_at c.centred.new.out _ c.in-ok-numbers.numbers.len (c.centred.auto.out ∙ c.deref-mut.ensures.len)
+    take_at c.centred.new.out _ c.in_ok-numbers.numbers.len (c.centred.auto.out ∙ c.deref_mut.ensures.len)
     ∙ c.in-Ok.ensures.1

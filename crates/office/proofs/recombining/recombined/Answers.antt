@@ -7,4 +7,4 @@ pub returns : goal.returns
 returns g c =
     let C = g.K.Kind.coding in
     subst (λ m. Unread C.width C.limit m c.args.words.now c.in-Err.refusal)
-    (c.deref-mut.ensures.len ∙ c.in-ok-list.ensures.len) c.in-Err.ensures
+    (c.deref_mut.ensures.len ∙ c.in_ok-list.ensures.len) c.in-Err.ensures

@@ -7,5 +7,5 @@ use Rattle.office.proofs.report.element_lines.Goals as goal
 pub returns : goal.returns
 returns g c =
     line_is (heading c.args.name c.args.shares) (spaced decimal (g.K.Kind.coding.words c.args.sum.now))
-    (string_bytes c.in-ok-text.text) (string_bytes c.push-words.new.text) (string_bytes c.push-str.new.self)
-    c.in-ok-text.ensures c.in-ok-push-words.ensures c.in-ok-push-str.ensures.bytes
+    (string_bytes c.in_ok-text.text) (string_bytes c.push_words.new.text) (string_bytes c.push_str.new.self)
+    c.in_ok-text.ensures c.in_ok-push_words.ensures c.in_ok-push_str.ensures.bytes

@@ -9,6 +9,6 @@ pub returns : goal.returns
 returns c =
     let zs = spaced signed_decimal c.args.numbers.now in
     line_is (string_bytes c.args.text.now ++ codes "centred:") zs
-    (string_bytes c.push-str.new.self) (string_bytes c.push-numbers.new.text) (string_bytes c.push-str-2.new.self)
-    c.in-ok-push-str.ensures.bytes (c.in-ok-push-numbers.ensures signed_decimal (λ z. refl)) c.in-ok-push-str-2.ensures.bytes
+    (string_bytes c.push_str.new.self) (string_bytes c.push_numbers.new.text) (string_bytes c.push_str-2.new.self)
+    c.in_ok-push_str.ensures.bytes (c.in_ok-push_numbers.ensures signed_decimal (λ z. refl)) c.in_ok-push_str-2.ensures.bytes
     ∙ append_assoc (string_bytes c.args.text.now) (codes "centred:") (zs ++ codes "\n")

@@ -11,9 +11,9 @@ loop-number-init g c digits shows = sym (append-nil (string_bytes c.args.text.no
 pub loop-number-preserved : goal.loop-number-preserved
 loop-number-preserved g c digits shows =
     spaced_more digits c.args.numbers.now c.loop-number.number-index c.number-item.result
-    (string_bytes c.args.text.now) (string_bytes c.loop-number.text) (string_bytes c.push-number.new.text)
+    (string_bytes c.args.text.now) (string_bytes c.loop-number.text) (string_bytes c.push_number.new.text)
     c.loop-number-test.true c.number-item.is (c.loop-number.invariant digits shows)
-    (c.in-ok-push-number.ensures (digits c.number-item.result) (shows c.number-item.result))
+    (c.in_ok-push_number.ensures (digits c.number-item.result) (shows c.number-item.result))
 
 pub returns : goal.returns
 returns g c digits shows =

@@ -13,9 +13,9 @@ loop-i-preserved g c =
     let ws = g.K.Kind.coding.words c.args.x.now in
     let within : c.loop-i.i < length ws = omega (arith, (g.K.Kind.codes.readable c.args.x.now).counted) in
     spaced_more decimal ws c.loop-i.i c.word.result
-    (string_bytes c.args.text.now) (string_bytes c.loop-i.text) (string_bytes c.push-number.new.text)
+    (string_bytes c.args.text.now) (string_bytes c.loop-i.text) (string_bytes c.push_number.new.text)
     within (c.word.ensures ∙ get_or_default ws c.loop-i.i 0 c.word.result within) c.loop-i.invariant
-    (c.in-ok-push-number.ensures (decimal c.word.result) refl)
+    (c.in_ok-push_number.ensures (decimal c.word.result) refl)
 
 pub returns : goal.returns
 returns g c =

@@ -16,12 +16,12 @@ loop-i-preserved c =
     let n = length c.args.b.now in
     let w = i + n + 8 - i in
     let long : length c.loop-i.p ≡ 2 * n = omega (arith, c.loop-i.auto.p, c.fill.ensures.len, c.requires.room) in
-    let part : length c.add-rows.new.sums ≡ w = search rules in
+    let part : length c.add_rows.new.sums ≡ w = search rules in
     let eight : (j : ℕ) → j < 8 → at (take (i + 8 - i) (drop i c.args.a.now)) j ≡ at c.args.a.now (i + j) =
     λ j h. get_or-take (i + 8 - i) (drop i c.args.a.now) j 0 (omega arith) ∙ get_or-drop i c.args.a.now j 0 in (
       omega arith,
-      left_more (at c.args.a.now) (at c.args.b.now) n i w c.loop-i.p (take (i + 8 - i) (drop i c.args.a.now)) c.padded-padded.result c.add-rows.new.sums
-          (λ k h. get_or_past c.args.b.now k 0 h) (omega arith) (omega (arith, c.loop-i-test.true, c.requires.eights, c.loop-i.invariant.0)) part eight c.padded-padded.ensures.places c.add-rows.ensures c.loop-i.invariant.1,
+      left_more (at c.args.a.now) (at c.args.b.now) n i w c.loop-i.p (take (i + 8 - i) (drop i c.args.a.now)) c.padded-padded.result c.add_rows.new.sums
+          (λ k h. get_or_past c.args.b.now k 0 h) (omega arith) (omega (arith, c.loop-i-test.true, c.requires.eights, c.loop-i.invariant.0)) part eight c.padded-padded.ensures.places c.add_rows.ensures c.loop-i.invariant.1,
     )
 
 pub returns : goal.returns

@@ -10,8 +10,8 @@ returns c =
     let n = length c.args.middle.now in
     let h = n / 2 in
     let part : length c.add.new.sums ≡ h + n - h = search rules in
-    let left : length c.take-away.new.sums ≡ n = search rules in
-    joined n h (h + n - h) p (take (n - 0) p) (take (2 * n - n) (drop n p)) c.args.middle.now c.take-away.new.sums c.add.new.sums
+    let left : length c.take_away.new.sums ≡ n = search rules in
+    joined n h (h + n - h) p (take (n - 0) p) (take (2 * n - n) (drop n p)) c.args.middle.now c.take_away.new.sums c.add.new.sums
     refl (omega arith) (omega (arith, c.requires)) part refl left
     (λ k z. get_or-take (n - 0) p k 0 (omega arith)) (λ k z. get_or-take (2 * n - n) (drop n p) k 0 (omega arith) ∙ get_or-drop n p k 0)
-    c.take-away.ensures c.add.ensures
+    c.take_away.ensures c.add.ensures

@@ -12,7 +12,7 @@ returns c k h =
     let w = 8 + n - 8 in
     let p = c.multiply.new.p in
     let long : length p ≡ 2 * n - 0 = search rules in
-    sym (mod-eq_of_lt (c.type-inv.p k).fits)
+    sym (mod-eq_of_lt (c.type_inv.p k).fits)
     ∙ ap (λ v. v % 65536) (get_or_append_left p _ 0 k (omega (arith, c.requires)))
     ∙ c.multiply.ensures k (omega (arith, c.requires))
     ∙ ap₂ (λ f g. conv f g k % 65536)

@@ -10,10 +10,10 @@ returns-then-from-text c = at_drop_all (lines_from false _) _ _ c.if-from-text.t
 
 pub returns-then-end-text : goal.returns-then-end-text
 returns-then-end-text c =
-    let ends = c.line-end-end.ensures in
+    let ends = c.line_end-end.ensures in
     line_spans _ _ _ ends.inside ends.stops _ c.if-from-text.false (lines_feed _ _ c.if-end-text.true (ends.stops c.if-end-text.true))
 
 pub returns-else-end-text : goal.returns-else-end-text
 returns-else-end-text c =
-    let ends = c.line-end-end.ensures in
+    let ends = c.line_end-end.ensures in
     line_spans _ _ _ ends.inside ends.stops _ c.if-from-text.false (lines_none _ _ c.if-end-text.false)

@@ -23,4 +23,4 @@ loop-token-preserved c =
     let all = numbers_of c.args.most (to_come c.args.reader) in
     let was = vec_items c.loop-token.all in
     let now = vec_items c.push.new.self in
-    one_more _ _ all was now _ _ _ _ c.loop-token.invariant c.in-Some.ensures.takes c.from.ensures c.in-ok-n.ensures c.in-ok-push.ensures.items
+    one_more _ _ all was now _ _ _ _ c.loop-token.invariant c.in-Some.ensures.takes c.from.ensures c.in_ok-n.ensures c.in_ok-push.ensures.items

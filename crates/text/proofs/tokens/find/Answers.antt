@@ -7,10 +7,10 @@ use Rattle.text.proofs.tokens.find.Goals as goal
 
 pub returns-then-start-text : goal.returns-then-start-text
 returns-then-start-text c =
-    c.past-white-start.ensures.same ∙ at_drop_all (tokens_from false _) _ _ c.if-start-text.true
+    c.past_white-start.ensures.same ∙ at_drop_all (tokens_from false _) _ _ c.if-start-text.true
 
 pub returns : goal.returns
 returns c =
-    let begins = c.past-white-start.ensures in
-    let ends = c.token-end.ensures in
+    let begins = c.past_white-start.ensures in
+    let ends = c.token_end.ensures in
     spans _ _ _ _ begins.same c.if-start-text.false (begins.stops c.if-start-text.false) ends.inside ends.stops

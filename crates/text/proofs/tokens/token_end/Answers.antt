@@ -8,4 +8,4 @@ loop-i-init c = inside_none _ _
 
 pub loop-i-preserved : goal.loop-i-preserved
 loop-i-preserved c =
-    inside_more _ _ _ c.loop-i-test.true (sym c.if-not-is-ascii-whitespace.ensures.value) c.loop-i.invariant
+    inside_more _ _ _ c.loop-i-test.true (sym c.if-not-is_ascii_whitespace.ensures.value) c.loop-i.invariant

@@ -1,6 +1,6 @@
 -- The array is filled with the folded coefficients.
 use Rattle.poly.specs.Lanes.{folded_at}
-use Rattle.poly.proofs.Made.{made_none, made_more, made_ghosts, made_all}
+use Rattle.poly.proofs.Made.{made_none, made_more, made_small, made_all}
 use Rattle.poly.proofs.elements.Poly.folded.Goals as goal
 
 pub loop-i-init : goal.loop-i-init
@@ -11,8 +11,8 @@ loop-i-preserved g c =
     made_more g.row.N g.row.M (folded_at g.row.N g.row.M c.args.sums.now) c.loop-i.i c.loop-i.c-items c.folded_at.result
     c.loop-i-test.true c.folded_at.ensures c.loop-i.invariant
 
-pub invariant-of-result : goal.invariant-of-result
-invariant-of-result g c = made_ghosts g.row.N g.row.M (folded_at g.row.N g.row.M c.args.sums.now) c.loop-i.i c.loop-i.c-items c.loop-i-test.false c.loop-i.invariant
+pub invariant_of-result : goal.invariant_of-result
+invariant_of-result g c = record { long = c.loop-i.invariant.0; small = made_small g.row.N g.row.M (folded_at g.row.N g.row.M c.args.sums.now) c.loop-i.i c.loop-i.c-items c.loop-i-test.false c.loop-i.invariant }
 
 pub returns : goal.returns
 returns g c = made_all g.row.N g.row.M (folded_at g.row.N g.row.M c.args.sums.now) c.loop-i.i _ c.loop-i-test.false c.loop-i.invariant

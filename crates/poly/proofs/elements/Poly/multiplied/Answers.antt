@@ -11,7 +11,7 @@ returns g c =
     let within : served g.row.N g.row.M ≡ true = search rules in
     let s = bounds g.row.N g.row.M within in
     record {
-      value = c.folded.ensures ∙ folded_product g.row.N g.row.M s c.args.self.now c.args.other.now c.put-product.new.p
-          (λ k h. c.put-product.ensures k (omega (arith, c.args.self.now.long, c.args.other.now.long)));
+      value = c.folded.ensures ∙ folded_product g.row.N g.row.M s c.args.self.now c.args.other.now c.put_product.new.p
+          (λ k h. c.put_product.ensures k (omega (arith, c.args.self.now.long, c.args.other.now.long)));
       quotient = quotient g.row.N g.row.M;
     }

@@ -1,6 +1,6 @@
 -- The array is filled with the coefficients of the sum.
 use Rattle.poly.specs.Elements.{sum_at}
-use Rattle.poly.proofs.Made.{made_none, made_more, made_ghosts, made_all}
+use Rattle.poly.proofs.Made.{made_none, made_more, made_small, made_all}
 use Rattle.poly.proofs.elements.Poly.sum.Goals as goal
 
 pub loop-i-init : goal.loop-i-init
@@ -8,11 +8,11 @@ loop-i-init g c = made_none g.row.N g.row.M (sum_at c.args.self.now c.args.other
 
 pub loop-i-preserved : goal.loop-i-preserved
 loop-i-preserved g c =
-    made_more g.row.N g.row.M (sum_at c.args.self.now c.args.other.now) c.loop-i.i c.loop-i.c-items c.add-mod.result
-    c.loop-i-test.true c.add-mod.ensures c.loop-i.invariant
+    made_more g.row.N g.row.M (sum_at c.args.self.now c.args.other.now) c.loop-i.i c.loop-i.c-items c.add_mod.result
+    c.loop-i-test.true c.add_mod.ensures c.loop-i.invariant
 
-pub invariant-of-result : goal.invariant-of-result
-invariant-of-result g c = made_ghosts g.row.N g.row.M (sum_at c.args.self.now c.args.other.now) c.loop-i.i c.loop-i.c-items c.loop-i-test.false c.loop-i.invariant
+pub invariant_of-result : goal.invariant_of-result
+invariant_of-result g c = record { long = c.loop-i.invariant.0; small = made_small g.row.N g.row.M (sum_at c.args.self.now c.args.other.now) c.loop-i.i c.loop-i.c-items c.loop-i-test.false c.loop-i.invariant }
 
 pub returns : goal.returns
 returns g c = made_all g.row.N g.row.M (sum_at c.args.self.now c.args.other.now) c.loop-i.i _ c.loop-i-test.false c.loop-i.invariant
