@@ -12,7 +12,7 @@ impl Operation {
     pub(crate) fn of(name: &[u8]) -> Option<Operation>
         ensures { result ≡ operation_of name.now }
     {
-        if name == b"times" {
+        if name == b"times".as_slice() {
             Some(Operation::Times)
         } else {
             None

@@ -7,7 +7,6 @@ use crate::recombining::recombined;
 use crate::report::{element_lines, push_centred};
 use crate::requests::Request;
 use crate::troubles::Trouble;
-use kinds::traits::Kind;
 use kinds::{Kind, W};
 use poly::Centred;
 use poly::sizes::*;

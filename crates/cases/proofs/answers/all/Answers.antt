@@ -19,4 +19,4 @@ loop-line-preserved c =
     (came (Line (to_come c.in-Some.line)) c.in_ok-result.result c.in_ok-result.ensures)
 
 pub returns : goal.returns
-returns c = inl (run_all _ _ _ c.in-default.ensures.0 c.loop-line.invariant)
+returns c = inl (run_all _ _ _ c.in_default.ensures.0 c.loop-line.invariant)

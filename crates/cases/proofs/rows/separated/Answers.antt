@@ -6,9 +6,9 @@ use Rattle.text.specs.Shown.{spaced}
 use Rattle.cases.specs.Results.{separated}
 use Rattle.cases.proofs.rows.separated.Goals as goal
 
-pub returns-in_ok-push_numbers : goal.returns-in_ok-push_numbers
-returns-in_ok-push_numbers c =
+pub returns-in_ok-push_numbers-in-len1-up : goal.returns-in_ok-push_numbers-in-len1-up
+returns-in_ok-push_numbers-in-len1-up c =
     let ns = c.args.numbers.now in
-    c.in_ok-push_numbers.ensures decimal (λ z. refl)
-    ∙ ap (λ t. t ++ spaced decimal (between 1 (length ns) ns)) c.in_ok-text.ensures.ok
+    c.in_ok-push_numbers-in-len1-up.ensures decimal (λ z. refl)
+    ∙ ap (λ t. t ++ spaced decimal (between 1 (length ns) ns)) c.in_ok-text-in-len1-up.ensures.ok
     ∙ sym (ap separated (first_rest ns 0 (omega (arith, ltb-false))))
