@@ -1,5 +1,6 @@
 // Cases of arithmetic: a line asks for an operation on elements of a kind, and is answered with a line.
 #![tactic(auto)]
+
 pub mod answers;
 pub mod explaining;
 mod operations;

@@ -1,5 +1,6 @@
 // The functions of the static library. From C a slice is a pointer and a length, and the buffer overlaps no other slice.
 #![tactic(auto)]
+
 ghost use Rattle.std.specs.Prelude.{◌≡◌, ◌-◌, ◌^◌};
 ghost use Rattle.exports.specs.Products.{Multiplies, Sized, code};
 

@@ -1,5 +1,6 @@
 // Kinds of element: what they share, refusals and their numbers, words, recombination, and the kind W.
 #![tactic(auto)]
+
 pub mod bitwise;
 pub mod refusals;
 pub mod sums;

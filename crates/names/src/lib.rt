@@ -1,5 +1,6 @@
 // The kinds that are put together, by name.
 #![tactic(auto)]
+
 ghost use Rattle.std.specs.Prelude.{◌≡◌, Some};
 ghost use Rattle.names.specs.Names.{name_text, among, name_of};
 

@@ -1,5 +1,6 @@
 // What the office does with the shares that it is sent: reads them, adds them, and reports the key.
 #![tactic(auto)]
+
 pub mod answers;
 pub mod explaining;
 pub mod names;

@@ -1,5 +1,6 @@
 // Polynomials modulo 1 + X + ... + X^N and a modulus M: the kinds Q and T.
 #![tactic(auto)]
+
 pub mod elements;
 mod lanes;
 pub mod served;

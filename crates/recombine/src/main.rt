@@ -1,5 +1,6 @@
 // Recombines the shares on standard input, and prints the element that they make up.
 #![tactic(auto)]
+
 use anyhow::anyhow;
 use office::{Explained, answer};
 use std::io::Read;

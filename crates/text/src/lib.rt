@@ -1,5 +1,6 @@
 // Decimal words out of text and into it: lines, tokens, numbers, and the line and column of what is wrong.
 #![tactic(auto)]
+
 pub mod faults;
 pub mod lines;
 pub mod lists;

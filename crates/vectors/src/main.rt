@@ -1,5 +1,6 @@
 // Works the cases on standard input, and prints a line with the result of each.
 #![tactic(auto)]
+
 use anyhow::anyhow;
 use cases::{Explained, answer};
 use std::io::Read;
