@@ -1,5 +1,5 @@
 -- Kind W: plus and minus are exclusive or, times is and; two words, low half first. Assumes nothing.
-use Rattle.std.specs.Prelude.{ℕ, zero, ◌+◌, ◌*◌, ◌/◌, ◌%◌, ◌^◌, List, [], ◌∷◌, bit_and, bit_xor, slice_index}
+use Rattle.std.specs.Prelude.{ℕ, ◌+◌, ◌*◌, ◌/◌, ◌%◌, ◌^◌, List, [], ◌∷◌, bit_and, bit_xor, slice_index}
 use Rattle.std.proofs.Common.{arith}
 use Rattle.kinds.specs.Ring.{Ops}
 use Rattle.kinds.specs.Words.{Coding}
