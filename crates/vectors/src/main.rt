@@ -1,24 +1,26 @@
 // Works the cases on standard input, and prints a line with the result of each.
 #![tactic(auto)]
 
-use anyhow::anyhow;
 use cases::{Explained, answer};
 use std::io::Read;
+use std::process::ExitCode;
 
-fn main(rt: HostRuntime) -> anyhow::Result<()> {
+fn main(rt: HostRuntime) -> anyhow::Result<ExitCode> {
     let heap = rt.alloc();
     let mut input = Vec::new(heap);
     rt.stdin().read_to_end(&mut input)?;
     match answer(heap, &input) {
-        Ok(results) => print!(rt; "{results}")?,
+        Ok(results) => {
+            print!(rt; "{results}")?;
+            Ok(ExitCode::SUCCESS)
+        }
         Err(trouble) => {
             let explained = Explained {
                 input: &input,
                 trouble,
             };
             eprintln!(rt; "{explained}")?;
-            return Err(anyhow!("there are no results"));
+            Ok(ExitCode::FAILURE)
         }
     }
-    Ok(())
 }
