@@ -16,7 +16,7 @@ pub trait Kind: Copy {
     // The count of words of an element.
     const WORDS: usize;
 
-    // The same count: a clause cannot name a constant.
+    // The same count, as clauses name it.
     fn width() -> usize
         ensures { result ≡ coding.width };
 

@@ -4,7 +4,7 @@ use Rattle.std.specs.Str.{all_ascii_digits}
 use Rattle.text.specs.declared.faults.Problem.{Problem}
 use Rattle.text.specs.declared.faults.Problem.TheVariants.{NotANumber, TooLarge}
 
--- one digit or more, and nothing else: `allDigits` says that each byte is from 48 to 57
+-- one digit or more, and nothing else: `all_ascii_digits` says that each byte is from 48 to 57
 abbrev pub is_number : List ℕ → Bool
 is_number bs = nat_lt 0 (length bs) && all_ascii_digits bs
 
