@@ -1,8 +1,8 @@
 -- The kinds that are put together: their sizes, and how each is printed and read. Assumes nothing.
-use Rattle.std.specs.Prelude.{ℕ, ◌-◌, ◌^◌, cond, List, [], ◌∷◌, Some, None, codes, Option}
+use Rattle.std.specs.Prelude.{ℕ, ◌-◌, ◌^◌, List, [], ◌∷◌, codes, find, Option}
 use Rattle.std.specs.Str.{bytes_eq}
-use Rattle.names.specs.declared.Name.{Name}
-use Rattle.names.specs.declared.Name.TheVariants.{Q3, Q509, Q677, Q701, Q821, T3, T509, T677, T701, T821, W}
+use Rattle.names.specs.declared.naming.Name.{Name}
+use Rattle.names.specs.declared.naming.Name.TheVariants.{Q3, Q509, Q677, Q701, Q821, T3, T509, T677, T701, T821, W}
 
 -- how a kind is printed
 abbrev pub name_text : Name → List ℕ
@@ -20,8 +20,7 @@ name_text W = codes "W"
 
 -- the first of these kinds that is printed so
 abbrev pub among : List Name → List ℕ → Option Name
-among [] bs = None
-among (n ∷ ns) bs = cond (bytes_eq (name_text n) bs) (Some n) (among ns bs)
+among names bs = find (λ n. bytes_eq (name_text n) bs) names
 
 -- the kind that is printed so
 abbrev pub name_of : List ℕ → Option Name
