@@ -1,7 +1,7 @@
 -- The definitions that the contracts of `office` cite.
 pub mod Answers
 pub mod Explaining
-pub mod Names
+pub mod Headers
 pub mod Report
 pub mod Requests
 pub mod Sums

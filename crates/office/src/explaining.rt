@@ -1,41 +1,36 @@
 // What is wrong, in words for the person who typed the input.
 ghost use Rattle.std.specs.Prelude.{Some};
-ghost use Rattle.office.specs.Explaining.{explanation};
+ghost use Rattle.office.specs.Explaining.{message, offset};
 
 use crate::troubles::Trouble;
+use programs::Placed;
 use std::fmt;
-use text::Place;
 
-// A trouble, with the input that it comes from.
-#[derive(Clone, Copy)]
-pub struct Explained<'a> {
-    pub input: &'a [u8],
-    pub trouble: Trouble,
-}
-
-impl fmt::Display for Explained<'_> {
-    ghost output = { λ e. Some (explanation e.input.now e.trouble) };
+impl fmt::Display for Trouble {
+    ghost output = { λ t. Some (message t) };
 
     fn fmt<W: fmt::Write>(&self, f: &mut fmt::Formatter<W>) -> fmt::Result {
-        match self.trouble {
-            Trouble::Header { at } => {
-                let place = Place::of(self.input, at);
-                write!(
-                    f,
-                    "{place}: expected a known kind and a number of shares, as in `Q 509 11 3`, `T 701 3` or `W 3`"
-                )
-            }
-            Trouble::ShareCount { at } => {
-                let place = Place::of(self.input, at);
-                write!(f, "{place}: more than 64 shares")
-            }
-            Trouble::BadText(fault) => {
-                let place = Place::of(self.input, fault.at);
-                let problem = fault.problem;
-                write!(f, "{place}: {problem}")
-            }
+        match self {
+            Trouble::Header { .. } => write!(
+                f,
+                "expected a known kind and a number of shares, as in `Q 509 11 3`, `T 701 3` or `W 3`"
+            ),
+            Trouble::ShareCount { .. } => write!(f, "more than 64 shares"),
+            Trouble::BadText(fault) => fault.problem.fmt(f),
             Trouble::Refused(refusal) => write!(f, "refused with {refusal}"),
             Trouble::Memory => write!(f, "out of memory"),
+        }
+    }
+}
+
+impl Placed for Trouble {
+    ghost offset = { offset };
+
+    fn offset(&self) -> Option<usize> {
+        match self {
+            Trouble::Header { at } | Trouble::ShareCount { at } => Some(*at),
+            Trouble::BadText(fault) => Some(fault.at),
+            Trouble::Refused(_) | Trouble::Memory => None,
         }
     }
 }

@@ -2,14 +2,14 @@
 #![tactic(auto)]
 
 pub mod answers;
-pub mod explaining;
-pub mod names;
+mod explaining;
+mod headers;
 mod recombining;
 mod report;
 mod requests;
 pub mod troubles;
 
 pub use answers::answer;
-pub use explaining::Explained;
 pub use names::Name;
+pub use programs::Explained;
 pub use troubles::Trouble;

@@ -15,10 +15,7 @@ pub(crate) fn recombined<K: Kind + Clone>(
     ensures { Recombined K.Kind.ops K.Kind.coding shares words.now result }
 {
     let mut list = vec![in heap; K::zero(); shares]?;
-    match summed(words, &mut list) {
-        Ok(sum) => Ok(sum),
-        Err(refusal) => Err(Trouble::Refused(refusal)),
-    }
+    Ok(summed(words, &mut list)?)
 }
 
 // The sum of the elements with these words, which it reads into the list.

@@ -1,7 +1,7 @@
 // Why there is no report.
 ghost use Rattle.std.specs.Prelude.{◌≡◌};
 ghost use Rattle.office.specs.Troubles.{trouble_of};
-ghost use Rattle.office.specs.declared.troubles.Trouble.TheVariants.{Memory};
+ghost use Rattle.office.specs.declared.troubles.Trouble.TheVariants.{Refused, Memory};
 
 use kinds::Refusal;
 use std::alloc::AllocError;
@@ -29,6 +29,14 @@ impl From<WordsError> for Trouble {
             WordsError::Bad(fault) => Trouble::BadText(fault),
             WordsError::Memory => Trouble::Memory,
         }
+    }
+}
+
+impl From<Refusal> for Trouble {
+    ghost from_gives = { λ e r. r ≡ Refused e };
+
+    fn from(refusal: Refusal) -> Trouble {
+        Trouble::Refused(refusal)
     }
 }
 

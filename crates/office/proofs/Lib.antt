@@ -1,4 +1,0 @@
--- Lemmas for the proofs of `office`.
-pub mod Naming
-pub mod Parsing
-pub mod Printing

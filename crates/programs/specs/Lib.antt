@@ -1,0 +1,2 @@
+-- The definitions that the contracts of `programs` cite.
+pub mod Explaining

@@ -1,0 +1,16 @@
+// Elements as lists of words.
+ghost use Rattle.std.specs.Prelude.{◌≡◌, IfOk};
+
+use kinds::{Kind, show};
+use std::alloc::{AllocError, Global};
+
+// The element's words.
+pub fn shown<K: Kind>(heap: Global, x: &K) -> Result<Vec<u16>, AllocError>
+    ensures { IfOk result (λ v. v.items ≡ K.Kind.coding.words x.now) }
+{
+    let mut words = vec![in heap; 0; K::width()]?;
+    match show(x, &mut words) {
+        Ok(()) => Ok(words),
+        Err(_) => unreachable(),
+    }
+}
