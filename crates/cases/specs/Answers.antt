@@ -1,9 +1,9 @@
 -- What is answered to an input. Assumes nothing.
 use Rattle.std.specs.Prelude.{◌≡◌, ℕ, ◌⊎◌, List, [], ◌∷◌, ◌++◌, Ok, Err, Result, String}
 use Rattle.std.specs.declared.alloc.Global.{Global}
-use Rattle.kinds.specs.Bits.{ops as bit-ops, coding as bit-coding}
+use Rattle.kinds.specs.Bits.{ops as bit_ops, coding as bit_coding}
 use Rattle.names.specs.Names.{by_size}
-use Rattle.names.specs.declared.Name.{Name}
+use Rattle.names.specs.declared.naming.Name.{Name}
 use Rattle.poly.specs.Elements.{ops, coding}
 use Rattle.text.specs.Lines.{lines_of}
 use Rattle.text.specs.Tokens.{Word}
@@ -15,7 +15,7 @@ use Rattle.cases.specs.declared.troubles.Trouble.{Trouble}
 
 -- an operation in the kind with this name
 abbrev pub ByName : ℕ → Name → Operation → List ℕ → Result (List ℕ) Trouble → Type 0
-ByName at name op ws r = by_size name (λ n q. Works (ops n q) (coding n q) at op ws r) (Works bit-ops bit-coding at op ws r)
+ByName at name op ws r = by_size name (λ n q. Works (ops n q) (coding n q) at op ws r) (Works bit_ops bit_coding at op ws r)
 
 -- what comes of a question that begins at this offset
 abbrev pub Answered : ℕ → Result (Name × Operation × List ℕ) Trouble → Result (List ℕ) Trouble → Type 0

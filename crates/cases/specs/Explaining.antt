@@ -1,13 +1,20 @@
--- What is printed of a trouble. Assumes nothing.
-use Rattle.std.specs.Prelude.{ℕ, List, ◌++◌, codes}
+-- What is told of a trouble, and the offset that it is about. Assumes nothing.
+use Rattle.std.specs.Prelude.{ℕ, List, ◌++◌, codes, Some, None, Option}
 use Rattle.kinds.specs.Refusals.{refusal_text}
-use Rattle.text.specs.Shown.{problem_text, message_at}
+use Rattle.text.specs.Shown.{problem_text}
 use Rattle.cases.specs.declared.troubles.Trouble.{Trouble}
 use Rattle.cases.specs.declared.troubles.Trouble.TheVariants.{UnknownKind, UnknownOperation, BadText, Refused, Memory}
 
-abbrev pub explanation : List ℕ → Trouble → List ℕ
-explanation input (UnknownKind at) = message_at input at (codes "expected a known kind, as `Q(509,11)`, `T(701)` or `W`")
-explanation input (UnknownOperation at) = message_at input at (codes "expected the operation `times` behind the kind")
-explanation input (BadText f) = message_at input f.at (problem_text f.problem)
-explanation input (Refused at e) = message_at input at (codes "refused with " ++ refusal_text e)
-explanation input Memory = codes "out of memory"
+abbrev pub message : Trouble → List ℕ
+message (UnknownKind at) = codes "expected a known kind, as `Q(509,11)`, `T(701)` or `W`"
+message (UnknownOperation at) = codes "expected the operation `times` behind the kind"
+message (BadText f) = problem_text f.problem
+message (Refused at e) = codes "refused with " ++ refusal_text e
+message Memory = codes "out of memory"
+
+abbrev pub offset : Trouble → Option ℕ
+offset (UnknownKind at) = Some at
+offset (UnknownOperation at) = Some at
+offset (BadText f) = Some f.at
+offset (Refused at e) = Some at
+offset Memory = None

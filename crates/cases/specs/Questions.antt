@@ -2,7 +2,7 @@
 use Rattle.std.specs.Prelude.{◌≡◌, ℕ, cond, ◌⊎◌, List, [], ◌∷◌, Some, None, Ok, Err, vec_items, codes, Option, Result}
 use Rattle.std.specs.Str.{bytes_eq}
 use Rattle.names.specs.Names.{name_of}
-use Rattle.names.specs.declared.Name.{Name}
+use Rattle.names.specs.declared.naming.Name.{Name}
 use Rattle.text.specs.Readings.{numbers_of}
 use Rattle.text.specs.Tokens.{Word}
 use Rattle.text.specs.declared.faults.Fault.{Fault}

@@ -1,4 +1,5 @@
 // The answer to an input: a line for each case, or what is wrong.
+ghost use Rattle.kinds.specs.Bits.{ops as bit_ops, coding as bit_coding};
 ghost use Rattle.text.specs.Lines.{lines_to_come};
 ghost use Rattle.text.specs.Tokens.{to_come};
 ghost use Rattle.cases.specs.Answers.{ByName, Line, Lines, Answers};
@@ -6,12 +7,13 @@ ghost use Rattle.cases.specs.Results.{Works};
 ghost use Rattle.cases.specs.Troubles.{UnlessMemory};
 
 use crate::questions::Question;
-use crate::results::{computed, shown};
+use crate::results::computed;
 use crate::rows::row;
 use crate::troubles::Trouble;
 use kinds::{Kind, Ring, W};
-use names::Name;
-use poly::sizes::*;
+use names::Work;
+use poly::Centred;
+use programs::shown;
 use std::alloc::Global;
 use text::{LineReader, Reader};
 
@@ -51,18 +53,29 @@ fn one(heap: Global, mut line: Reader) -> Result<String, Trouble>
 fn by_name(heap: Global, question: &Question) -> Result<String, Trouble>
     ensures { UnlessMemory (ByName question.now.at question.now.name question.now.operation question.now.words.items) result }
 {
-    match question.name {
-        Name::Q3 => worked::<Q3>(heap, question),
-        Name::Q509 => worked::<Q509>(heap, question),
-        Name::Q677 => worked::<Q677>(heap, question),
-        Name::Q701 => worked::<Q701>(heap, question),
-        Name::Q821 => worked::<Q821>(heap, question),
-        Name::T3 => worked::<T3>(heap, question),
-        Name::T509 => worked::<T509>(heap, question),
-        Name::T677 => worked::<T677>(heap, question),
-        Name::T701 => worked::<T701>(heap, question),
-        Name::T821 => worked::<T821>(heap, question),
-        Name::W => worked::<W>(heap, question),
+    question.name.run(Row { heap, question })
+}
+
+// The line that a question is answered with.
+#[derive(Drop)]
+struct Row<'a> {
+    heap: Global,
+    question: &'a Question,
+}
+
+impl Work for Row<'_> {
+    type Outcome = Result<String, Trouble>;
+
+    ghost in_polynomials = { λ w M R C numbers r. UnlessMemory (Works R C w.question.now.at w.question.now.operation w.question.now.words.items) r };
+
+    ghost in_bits = { λ w r. UnlessMemory (Works bit_ops bit_coding w.question.now.at w.question.now.operation w.question.now.words.items) r };
+
+    fn polynomials<P: Centred + Ring + Clone>(self) -> Result<String, Trouble> {
+        worked::<P>(self.heap, self.question)
+    }
+
+    fn bits(self) -> Result<String, Trouble> {
+        worked::<W>(self.heap, self.question)
     }
 }
 

@@ -1,44 +1,40 @@
 // What is wrong, in words for the person who typed the input.
 ghost use Rattle.std.specs.Prelude.{Some};
-ghost use Rattle.cases.specs.Explaining.{explanation};
+ghost use Rattle.cases.specs.Explaining.{message, offset};
 
 use crate::troubles::Trouble;
+use programs::Placed;
 use std::fmt;
-use text::Place;
 
-// A trouble, with the input that it comes from.
-#[derive(Clone, Copy)]
-pub struct Explained<'a> {
-    pub input: &'a [u8],
-    pub trouble: Trouble,
-}
-
-impl fmt::Display for Explained<'_> {
-    ghost output = { λ e. Some (explanation e.input.now e.trouble) };
+impl fmt::Display for Trouble {
+    ghost output = { λ t. Some (message t) };
 
     fn fmt<W: fmt::Write>(&self, f: &mut fmt::Formatter<W>) -> fmt::Result {
-        match self.trouble {
-            Trouble::UnknownKind { at } => {
-                let place = Place::of(self.input, at);
-                write!(
-                    f,
-                    "{place}: expected a known kind, as `Q(509,11)`, `T(701)` or `W`"
-                )
+        match self {
+            Trouble::UnknownKind { .. } => write!(
+                f,
+                "expected a known kind, as `Q(509,11)`, `T(701)` or `W`"
+            ),
+            Trouble::UnknownOperation { .. } => {
+                write!(f, "expected the operation `times` behind the kind")
             }
-            Trouble::UnknownOperation { at } => {
-                let place = Place::of(self.input, at);
-                write!(f, "{place}: expected the operation `times` behind the kind")
-            }
-            Trouble::BadText(fault) => {
-                let place = Place::of(self.input, fault.at);
-                let problem = fault.problem;
-                write!(f, "{place}: {problem}")
-            }
-            Trouble::Refused { at, refusal } => {
-                let place = Place::of(self.input, at);
-                write!(f, "{place}: refused with {refusal}")
-            }
+            Trouble::BadText(fault) => fault.problem.fmt(f),
+            Trouble::Refused { refusal, .. } => write!(f, "refused with {refusal}"),
             Trouble::Memory => write!(f, "out of memory"),
+        }
+    }
+}
+
+impl Placed for Trouble {
+    ghost offset = { offset };
+
+    fn offset(&self) -> Option<usize> {
+        match self {
+            Trouble::UnknownKind { at }
+            | Trouble::UnknownOperation { at }
+            | Trouble::Refused { at, .. } => Some(*at),
+            Trouble::BadText(fault) => Some(fault.at),
+            Trouble::Memory => None,
         }
     }
 }

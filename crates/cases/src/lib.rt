@@ -2,7 +2,7 @@
 #![tactic(auto)]
 
 pub mod answers;
-pub mod explaining;
+mod explaining;
 mod operations;
 mod questions;
 mod results;
@@ -10,5 +10,5 @@ mod rows;
 pub mod troubles;
 
 pub use answers::answer;
-pub use explaining::Explained;
+pub use programs::Explained;
 pub use troubles::Trouble;

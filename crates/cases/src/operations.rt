@@ -1,5 +1,6 @@
 // What can be asked for.
 ghost use Rattle.std.specs.Prelude.{◌≡◌};
+ghost use Rattle.std.specs.Result.{result_ok};
 ghost use Rattle.cases.specs.Questions.{operation_of};
 
 #[derive(Clone, Copy, PartialEq, Eq, Debug)]
@@ -7,15 +8,20 @@ pub enum Operation {
     Times,
 }
 
-impl Operation {
-    // The operation with this name.
-    pub(crate) fn of(name: &[u8]) -> Option<Operation>
-        ensures { result ≡ operation_of name.now }
-    {
-        if name == b"times".as_slice() {
-            Some(Operation::Times)
-        } else {
-            None
+// No operation has this name.
+#[derive(Clone, Copy, PartialEq, Eq, Debug)]
+pub struct UnknownOperation;
+
+// The operation with this name.
+impl TryFrom<&[u8]> for Operation {
+    type Error = UnknownOperation;
+
+    ghost try_from_gives = { λ name r. result_ok r ≡ operation_of name.now };
+
+    fn try_from(name: &[u8]) -> Result<Operation, UnknownOperation> {
+        match name {
+            b"times" => Ok(Operation::Times),
+            _ => Err(UnknownOperation),
         }
     }
 }

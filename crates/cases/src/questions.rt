@@ -23,15 +23,13 @@ impl Question {
         ensures { Asked (word kind.entry) (to_come rest.entry) result }
     {
         let at = kind.at;
-        let Some(name) = Name::of(kind.text) else {
-            return Err(Trouble::UnknownKind { at });
-        };
+        let name = Name::try_from(kind.text).map_err(|_| Trouble::UnknownKind { at })?;
         let Some(token) = rest.token() else {
             return Err(Trouble::UnknownOperation { at });
         };
-        let Some(operation) = Operation::of(token.text) else {
-            return Err(Trouble::UnknownOperation { at: token.at });
-        };
+        let operation = Operation::try_from(token.text).map_err(|_| Trouble::UnknownOperation {
+            at: token.at,
+        })?;
         let words = words(rest, heap)?;
         Ok(Question {
             at,

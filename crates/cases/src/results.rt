@@ -1,13 +1,13 @@
 // The result of an operation on elements that are given by words.
-ghost use Rattle.std.specs.Prelude.{◌≡◌, length, IfOk};
+ghost use Rattle.std.specs.Prelude.{◌≡◌, length};
 ghost use Rattle.cases.specs.Results.{Computes, Computed};
 ghost use Rattle.cases.specs.declared.operations.Operation.TheVariants.{Times};
 
 use crate::operations::Operation;
 use crate::questions::Question;
 use crate::troubles::Trouble;
-use kinds::{Kind, Refusal, Ring, read_list, show};
-use std::alloc::{AllocError, Global};
+use kinds::{Kind, Refusal, Ring, read_list};
+use std::alloc::Global;
 
 // The result that is asked for, in the kind K.
 pub(crate) fn computed<K: Ring + Clone>(heap: Global, question: &Question) -> Result<K, Trouble>
@@ -19,13 +19,8 @@ pub(crate) fn computed<K: Ring + Clone>(heap: Global, question: &Question) -> Re
             product(&question.words, &mut operands)
         }
     };
-    match result {
-        Ok(z) => Ok(z),
-        Err(refusal) => Err(Trouble::Refused {
-            at: question.at,
-            refusal,
-        }),
-    }
+    let at = question.at;
+    result.map_err(|refusal| Trouble::Refused { at, refusal })
 }
 
 // The product of the two elements with these words, which it reads into the list.
@@ -35,15 +30,4 @@ fn product<K: Ring>(words: &[u16], operands: &mut [K]) -> Result<K, Refusal>
 {
     read_list(words, operands)?;
     Ok(operands[0].times(&operands[1]))
-}
-
-// The element's words.
-pub(crate) fn shown<K: Kind>(heap: Global, x: &K) -> Result<Vec<u16>, AllocError>
-    ensures { IfOk result (λ v. v.items ≡ K.Kind.coding.words x.now) }
-{
-    let mut words = vec![in heap; 0; K::width()]?;
-    match show(x, &mut words) {
-        Ok(()) => Ok(words),
-        Err(_) => unreachable(),
-    }
 }
