@@ -15,11 +15,8 @@ fn main(rt: HostRuntime) -> anyhow::Result<ExitCode> {
             Ok(ExitCode::SUCCESS)
         }
         Err(trouble) => {
-            let explained = Explained {
-                input: &input,
-                trouble,
-            };
-            eprintln!(rt; "{explained}")?;
+            let input = input.as_slice();
+            eprintln!(rt; "{}", Explained { input, trouble })?;
             Ok(ExitCode::FAILURE)
         }
     }

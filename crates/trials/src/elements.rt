@@ -2,6 +2,7 @@
 use kinds::*;
 use poly::Centred;
 use poly::sizes::*;
+use programs::shown;
 use std::test::Fail;
 
 #[test]
@@ -19,6 +20,13 @@ fn an_element_of_w_is_read_again(rt: HostRuntime) -> Result<(), Fail> {
     let mut out = [0; 2];
     show(&W { bits: 0xffff_0001 }, &mut out)?;
     assert_eq!(rt; read::<W>(&out)?.bits, 0xffff_0001);
+    Ok(())
+}
+
+#[test]
+fn words_are_shown_in_a_list_of_their_own(rt: HostRuntime) -> Result<(), Fail> {
+    let words = shown(rt.alloc(), &W { bits: 0x1234_5678 })?;
+    assert_eq!(rt; words.as_slice(), [0x5678, 0x1234].as_slice());
     Ok(())
 }
 

@@ -1,7 +1,7 @@
 // What is answered to cases, and how what is wrong with them is told.
 use cases::{Explained, Trouble, answer};
 use kinds::Refusal;
-use names::Name;
+use names::{Name, UnknownName};
 use std::alloc::Global;
 use std::test::Fail;
 
@@ -59,7 +59,7 @@ fn operands_are_refused(rt: HostRuntime) -> Result<(), Fail> {
 
 #[test]
 fn kinds_have_names(rt: HostRuntime) {
-    assert_eq!(rt; Name::of(b"Q(821,12)"), Some(Name::Q821));
-    assert_eq!(rt; Name::of(b"T(3"), None);
-    assert_eq!(rt; Name::of(b""), None);
+    assert_eq!(rt; Name::try_from(b"Q(821,12)".as_slice()), Ok(Name::Q821));
+    assert_eq!(rt; Name::try_from(b"T(3".as_slice()), Err(UnknownName));
+    assert_eq!(rt; Name::try_from(b"".as_slice()), Err(UnknownName));
 }
