@@ -1,2 +1,3 @@
 -- The definitions that the contracts of `programs` cite.
 pub mod Explaining
+pub mod Serving

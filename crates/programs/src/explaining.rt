@@ -1,6 +1,6 @@
 // What is wrong with an input, in words for the person who typed it.
-ghost use Rattle.std.specs.Prelude.{◌≡◌, ℕ, Option, option_map};
-ghost use Rattle.programs.specs.Explaining.{explanation};
+ghost use Rattle.std.specs.Prelude.{◌≡◌, ℕ, Option};
+ghost use Rattle.programs.specs.Explaining.{told};
 
 use std::fmt;
 use text::Place;
@@ -22,7 +22,7 @@ pub struct Explained<'a, T> {
 }
 
 impl<T: Placed> fmt::Display for Explained<'_, T> {
-    ghost output = { λ e. option_map (explanation e.input.now (T.offset e.trouble)) (T.Display.output e.trouble) };
+    ghost output = { λ e. told e.input.now (T.offset e.trouble) (T.Display.output e.trouble) };
 
     fn fmt<W: fmt::Write>(&self, f: &mut fmt::Formatter<W>) -> fmt::Result {
         let trouble = &self.trouble;

@@ -1,8 +1,10 @@
-// What the programs share: how trouble with an input is explained, and the words of an element as a list of its own.
+// What the programs share: they serve what they read, explain what is wrong with it, and show the words of elements.
 #![tactic(auto)]
 
 pub mod explaining;
+pub mod serving;
 pub mod showing;
 
 pub use explaining::{Explained, Placed};
+pub use serving::serve;
 pub use showing::shown;

@@ -1,0 +1,49 @@
+// A program that answers what it reads.
+ghost use Rattle.std.specs.Prelude.{◌≡◌, List, ℕ, IfOk, IfSome};
+ghost use Rattle.programs.specs.Explaining.{told};
+ghost use Rattle.programs.specs.Serving.{Writes};
+
+use crate::explaining::{Explained, Placed};
+use std::alloc::Global;
+use std::io::{self, Read, Write};
+use std::process::ExitCode;
+
+// Answers all that `input` gives: the text goes to `output`; what is wrong goes to `errors`, as a line, and the status says so.
+pub fn serve<
+    T: Placed + Drop,
+    F: FnOnce(Global, &[u8]) -> Result<String, T>,
+    I: Read,
+    O: Write,
+    E: Write,
+>(heap: Global, answer: F, input: &mut I, output: &mut O, errors: &mut E) -> io::Result<ExitCode>
+    requires { F.IsAlwaysCallable answer }
+    ensures { IfOk result (λ status. (all : _) × (r : _) × IfSome (I.remaining input.old) (λ bytes. all.now ≡ bytes) × F.post answer heap all r
+        × Writes (λ e. told all.now (T.offset e) (T.Display.output e)) r (O.contents output.old) (O.contents output.new) (E.contents errors.old) (E.contents errors.new) status) }
+{
+    let mut bytes = Vec::new(heap);
+    input.read_to_end(&mut bytes)?;
+    let input = bytes.as_slice();
+    let status = write_answer(input, answer(heap, input), output, errors)?;
+    Ok(status)
+}
+
+// Writes the answer to this input.
+fn write_answer<T: Placed + Drop, O: Write, E: Write>(
+    input: &[u8],
+    answer: Result<String, T>,
+    output: &mut O,
+    errors: &mut E,
+) -> io::Result<ExitCode>
+    ensures { IfOk result (Writes (λ e. told input.now (T.offset e) (T.Display.output e)) answer (O.contents output.old) (O.contents output.new) (E.contents errors.old) (E.contents errors.new)) }
+{
+    match answer {
+        Ok(text) => {
+            write!(output, "{text}")?;
+            Ok(ExitCode::SUCCESS)
+        }
+        Err(trouble) => {
+            writeln!(errors, "{}", Explained { input, trouble })?;
+            Ok(ExitCode::FAILURE)
+        }
+    }
+}
