@@ -23,8 +23,7 @@ pub fn serve<
     let mut bytes = Vec::new(heap);
     input.read_to_end(&mut bytes)?;
     let input = bytes.as_slice();
-    let status = write_answer(input, answer(heap, input), output, errors)?;
-    Ok(status)
+    write_answer(input, answer(heap, input), output, errors)
 }
 
 // Writes the answer to this input.

@@ -1,7 +1,9 @@
 // What the office answers, and how it explains what is wrong.
 use kinds::Refusal;
 use office::{Explained, Trouble, answer};
+use programs::serve;
 use std::alloc::Global;
+use std::process::ExitCode;
 use std::test::Fail;
 use text::{Fault, Problem};
 
@@ -57,5 +59,35 @@ fn bad_text_is_placed(rt: HostRuntime) -> Result<(), Fail> {
     };
     let text = format!(in heap; "{explained}")?;
     assert_eq!(rt; text.as_str(), "line 2, column 3: not a decimal number");
+    Ok(())
+}
+
+#[test]
+fn an_answer_goes_out(rt: HostRuntime) -> Result<(), Fail> {
+    let mut output = Vec::new(rt.alloc());
+    let mut errors = Vec::new(rt.alloc());
+    let mut input = b"W 0".as_slice();
+    let status = serve(rt.alloc(), answer, &mut input, &mut output, &mut errors)?;
+    assert!(rt; status == ExitCode::SUCCESS);
+    assert_eq!(rt;
+        output.as_slice(),
+        b"kind: W\nshares: 0\nelement: 0 0\n".as_slice()
+    );
+    assert!(rt; errors.is_empty());
+    Ok(())
+}
+
+#[test]
+fn a_trouble_is_told_as_a_line(rt: HostRuntime) -> Result<(), Fail> {
+    let mut output = Vec::new(rt.alloc());
+    let mut errors = Vec::new(rt.alloc());
+    let mut input = b"W 1\n1 -".as_slice();
+    let status = serve(rt.alloc(), answer, &mut input, &mut output, &mut errors)?;
+    assert!(rt; status == ExitCode::FAILURE);
+    assert!(rt; output.is_empty());
+    assert_eq!(rt;
+        errors.as_slice(),
+        b"line 2, column 3: not a decimal number\n".as_slice()
+    );
     Ok(())
 }
