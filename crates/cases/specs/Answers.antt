@@ -3,29 +3,27 @@ use Rattle.std.specs.Prelude.{◌≡◌, ℕ, ◌⊎◌, List, [], ◌∷◌, �
 use Rattle.std.specs.declared.alloc.Global.{Global}
 use Rattle.kinds.specs.Bits.{ops as bit_ops, coding as bit_coding}
 use Rattle.names.specs.Names.{by_size}
-use Rattle.names.specs.declared.naming.Name.{Name}
 use Rattle.poly.specs.Elements.{ops, coding}
 use Rattle.text.specs.Lines.{lines_of}
 use Rattle.text.specs.Tokens.{Word}
-use Rattle.cases.specs.Questions.{asked}
+use Rattle.cases.specs.Questions.{Case, asked}
 use Rattle.cases.specs.Results.{Works}
 use Rattle.cases.specs.Troubles.{UnlessMemory}
-use Rattle.cases.specs.declared.operations.Operation.{Operation}
 use Rattle.cases.specs.declared.troubles.Trouble.{Trouble}
 
--- an operation in the kind with this name
-abbrev pub ByName : ℕ → Name → Operation → List ℕ → Result (List ℕ) Trouble → Type 0
-ByName at name op ws r = by_size name (λ n q. Works (ops n q) (coding n q) at op ws r) (Works bit_ops bit_coding at op ws r)
+-- a case in the kind that it names
+abbrev pub ByName : Case → Result (List ℕ) Trouble → Type 0
+ByName c r = by_size c.name (λ n q. Works (ops n q) (coding n q) c r) (Works bit_ops bit_coding c r)
 
--- what comes of a question that begins at this offset
-abbrev pub Answered : ℕ → Result (Name × Operation × List ℕ) Trouble → Result (List ℕ) Trouble → Type 0
-Answered at (Ok q) r = ByName at q.0 q.1 q.2 r
-Answered at (Err t) r = r ≡ Err t
+-- what comes of what was asked
+abbrev pub Answered : Result Case Trouble → Result (List ℕ) Trouble → Type 0
+Answered (Ok c) r = ByName c r
+Answered (Err t) r = r ≡ Err t
 
 -- what is printed for a line with these tokens, or its trouble
 abbrev pub Line : List Word → Result (List ℕ) Trouble → Type 0
 Line [] r = r ≡ Ok []
-Line (k ∷ ws) r = Answered k.offset (asked k ws) r
+Line (k ∷ ws) r = Answered (asked k ws) r
 
 -- what is printed for these lines, one after another, or the trouble of the first that has one
 abbrev pub Lines : List (List Word) → Result (List ℕ) Trouble → Type 0

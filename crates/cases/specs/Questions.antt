@@ -16,31 +16,38 @@ use Rattle.cases.specs.declared.troubles.Trouble.TheVariants.{UnknownKind, Unkno
 abbrev pub operation_of : List ℕ → Option Operation
 operation_of bs = cond (bytes_eq bs (codes "times")) (Some Times) None
 
--- a kind and an operation, with the words of the operands
-abbrev pub with_words : Name → Operation → Result (List ℕ) Fault → Result (Name × Operation × List ℕ) Trouble
-with_words name op (Ok ws) = Ok (name, op, ws)
-with_words name op (Err f) = Err (BadText f)
+-- a case: the offset that it begins at, the kind, the operation, and the words of the operands
+pub record Case : Type 0 where
+  pub at : ℕ
+  pub name : Name
+  pub operation : Operation
+  pub words : List ℕ
 
--- a kind, with the operation that the token w names, and the words behind it
-abbrev pub with_operation : Name → Word → Option Operation → List Word → Result (Name × Operation × List ℕ) Trouble
-with_operation name w None ws = Err (UnknownOperation w.offset)
-with_operation name w (Some op) ws = with_words name op (numbers_of 65535 ws)
+-- a case that begins with the token k, with the words of the operands
+abbrev pub with_words : Word → Name → Operation → Result (List ℕ) Fault → Result Case Trouble
+with_words k name op (Ok ws) = Ok (record { at = k.offset; name = name; operation = op; words = ws })
+with_words k name op (Err f) = Err (BadText f)
 
--- the kind that the token k names, with the operation and the words behind it
-abbrev pub with_kind : Word → Option Name → List Word → Result (Name × Operation × List ℕ) Trouble
+-- a case with the operation that the token w names, and the words behind it
+abbrev pub with_operation : Word → Name → Word → Option Operation → List Word → Result Case Trouble
+with_operation k name w None ws = Err (UnknownOperation w.offset)
+with_operation k name w (Some op) ws = with_words k name op (numbers_of 65535 ws)
+
+-- a case with the kind that the token k names, with the operation and the words behind it
+abbrev pub with_kind : Word → Option Name → List Word → Result Case Trouble
 with_kind k None ws = Err (UnknownKind k.offset)
 with_kind k (Some name) [] = Err (UnknownOperation k.offset)
-with_kind k (Some name) (w ∷ ws) = with_operation name w (operation_of w.bytes) ws
+with_kind k (Some name) (w ∷ ws) = with_operation k name w (operation_of w.bytes) ws
 
 -- what a line with the first token k asks for
-abbrev pub asked : Word → List Word → Result (Name × Operation × List ℕ) Trouble
+abbrev pub asked : Word → List Word → Result Case Trouble
 asked k ws = with_kind k (name_of k.bytes) ws
 
 -- a question of the code
-abbrev pub contents : Question → Name × Operation × List ℕ
-contents q = (q.name, q.operation, vec_items q.words)
+abbrev pub contents : Question → Case
+contents q = record { at = q.at; name = q.name; operation = q.operation; words = vec_items q.words }
 
 -- what is found in a line with the first token k, unless memory runs out
 abbrev pub Asked : Word → List Word → Result Question Trouble → Type 0
-Asked k ws (Ok q) = (q.at ≡ k.offset) × (asked k ws ≡ Ok (contents q))
+Asked k ws (Ok q) = asked k ws ≡ Ok (contents q)
 Asked k ws (Err t) = (asked k ws ≡ Err t) ⊎ (t ≡ Memory)

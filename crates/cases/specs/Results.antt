@@ -4,6 +4,7 @@ use Rattle.kinds.specs.Ring.{Ops}
 use Rattle.kinds.specs.Words.{Coding, Unread}
 use Rattle.kinds.specs.declared.refusals.Refusal.{Refusal}
 use Rattle.text.specs.Shown.{spaced}
+use Rattle.cases.specs.Questions.{Case}
 use Rattle.cases.specs.declared.operations.Operation.{Operation}
 use Rattle.cases.specs.declared.operations.Operation.TheVariants.{Times}
 use Rattle.cases.specs.declared.troubles.Trouble.{Trouble}
@@ -26,12 +27,12 @@ abbrev pub separated : List ℕ → List ℕ
 separated [] = []
 separated (w ∷ ws) = decimal w ++ spaced decimal ws
 
--- the line for the result of an operation, or the refusal of a case that begins at this offset
-abbrev pub Works : {M : Type 0} → Ops M → Coding M → ℕ → Operation → List ℕ → Result (List ℕ) Trouble → Type 0
-Works {M} R C at op ws (Ok text) = (z : M) × Computes R C op ws (Ok z) × (text ≡ separated (C.words z) ++ codes "\n")
-Works R C at op ws (Err t) = (e : Refusal) × Computes R C op ws (Err e) × (t ≡ Refused at e)
+-- the line for the result of a case, or its refusal
+abbrev pub Works : {M : Type 0} → Ops M → Coding M → Case → Result (List ℕ) Trouble → Type 0
+Works {M} R C c (Ok text) = (z : M) × Computes R C c.operation c.words (Ok z) × (text ≡ separated (C.words z) ++ codes "\n")
+Works R C c (Err t) = (e : Refusal) × Computes R C c.operation c.words (Err e) × (t ≡ Refused c.at e)
 
 -- the same before it is printed, where memory may run out
-abbrev pub Computed : {M : Type 0} → Ops M → Coding M → ℕ → Operation → List ℕ → Result M Trouble → Type 0
-Computed R C at op ws (Ok z) = Computes R C op ws (Ok z)
-Computed R C at op ws (Err t) = Works R C at op ws (Err t) ⊎ (t ≡ Memory)
+abbrev pub Computed : {M : Type 0} → Ops M → Coding M → Case → Result M Trouble → Type 0
+Computed R C c (Ok z) = Computes R C c.operation c.words (Ok z)
+Computed R C c (Err t) = Works R C c (Err t) ⊎ (t ≡ Memory)

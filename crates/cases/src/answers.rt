@@ -3,6 +3,7 @@ ghost use Rattle.kinds.specs.Bits.{ops as bit_ops, coding as bit_coding};
 ghost use Rattle.text.specs.Lines.{lines_to_come};
 ghost use Rattle.text.specs.Tokens.{to_come};
 ghost use Rattle.cases.specs.Answers.{ByName, Line, Lines, Answers};
+ghost use Rattle.cases.specs.Questions.{contents};
 ghost use Rattle.cases.specs.Results.{Works};
 ghost use Rattle.cases.specs.Troubles.{UnlessMemory};
 
@@ -51,7 +52,7 @@ fn one(heap: Global, mut line: Reader) -> Result<String, Trouble>
 
 // The result in the kind that is asked for.
 fn by_name(heap: Global, question: &Question) -> Result<String, Trouble>
-    ensures { UnlessMemory (ByName question.now.at question.now.name question.now.operation question.now.words.items) result }
+    ensures { UnlessMemory (ByName (contents question.now)) result }
 {
     question.name.run(Row { heap, question })
 }
@@ -66,9 +67,9 @@ struct Row<'a> {
 impl Work for Row<'_> {
     type Outcome = Result<String, Trouble>;
 
-    ghost in_polynomials = { λ w M R C numbers r. UnlessMemory (Works R C w.question.now.at w.question.now.operation w.question.now.words.items) r };
+    ghost in_polynomials = { λ w M R C numbers r. UnlessMemory (Works R C (contents w.question.now)) r };
 
-    ghost in_bits = { λ w r. UnlessMemory (Works bit_ops bit_coding w.question.now.at w.question.now.operation w.question.now.words.items) r };
+    ghost in_bits = { λ w r. UnlessMemory (Works bit_ops bit_coding (contents w.question.now)) r };
 
     fn polynomials<P: Centred + Ring + Clone>(self) -> Result<String, Trouble> {
         worked::<P>(self.heap, self.question)
@@ -81,7 +82,7 @@ impl Work for Row<'_> {
 
 // The result in the kind K.
 fn worked<K: Ring + Clone>(heap: Global, question: &Question) -> Result<String, Trouble>
-    ensures { UnlessMemory (Works K.Kind.ops K.Kind.coding question.now.at question.now.operation question.now.words.items) result }
+    ensures { UnlessMemory (Works K.Kind.ops K.Kind.coding (contents question.now)) result }
 {
     let result: K = computed(heap, question)?;
     let words = shown(heap, &result)?;

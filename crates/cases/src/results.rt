@@ -1,5 +1,6 @@
 // The result of an operation on elements that are given by words.
 ghost use Rattle.std.specs.Prelude.{◌≡◌, length};
+ghost use Rattle.cases.specs.Questions.{contents};
 ghost use Rattle.cases.specs.Results.{Computes, Computed};
 ghost use Rattle.cases.specs.declared.operations.Operation.TheVariants.{Times};
 
@@ -11,7 +12,7 @@ use std::alloc::Global;
 
 // The result that is asked for, in the kind K.
 pub(crate) fn computed<K: Ring + Clone>(heap: Global, question: &Question) -> Result<K, Trouble>
-    ensures { Computed K.Kind.ops K.Kind.coding question.now.at question.now.operation question.now.words.items result }
+    ensures { Computed K.Kind.ops K.Kind.coding (contents question.now) result }
 {
     let result = match question.operation {
         Operation::Times => {
