@@ -41,7 +41,7 @@ fn product<K: Ring>(words: &[u16], operands: &mut [K]) -> Result<K, Refusal>
 pub(crate) fn shown<K: Kind>(heap: Global, x: &K) -> Result<Vec<u16>, AllocError>
     ensures { IfOk result (λ v. v.items ≡ K.Kind.coding.words x.now) }
 {
-    let mut words = vec![in heap; 0; K::width()]?;
+    let mut words = vec![in heap; 0; K::WORDS]?;
     match show(x, &mut words) {
         Ok(()) => Ok(words),
         Err(_) => unreachable(),

@@ -18,7 +18,7 @@ pub fn read<K: Kind>(words: &[u16]) -> Result<K, Refusal>
 pub fn show<K: Kind>(x: &K, out: &mut [u16]) -> Result<(), Refusal>
     ensures { Shows K.Kind.coding.width (K.Kind.coding.words x.now) out.old out.new result }
 {
-    if out.len() != K::width() {
+    if out.len() != K::WORDS {
         return Err(Refusal::BufferLength);
     }
     put(x, out);
@@ -29,7 +29,7 @@ pub fn show<K: Kind>(x: &K, out: &mut [u16]) -> Result<(), Refusal>
 pub fn read_list<K: Kind>(words: &[u16], list: &mut [K]) -> Result<(), Refusal>
     ensures { Lists K.Kind.coding words.now list.old list.new result }
 {
-    judge(words, list.len(), K::width(), K::limit())?;
+    judge(words, list.len(), K::WORDS, K::LIMIT)?;
     fill(words, list);
     Ok(())
 }
@@ -66,7 +66,7 @@ fn judge(words: &[u16], m: usize, width: usize, limit: u32) -> Result<(), Refusa
 fn judge_one<K: Kind>(words: &[u16]) -> Result<(), Refusal>
     ensures { OneJudged K.Kind.coding words.now result }
 {
-    judge(words, 1, K::width(), K::limit())
+    judge(words, 1, K::WORDS, K::LIMIT)
 }
 
 // Writes the element's words into a buffer that is as long.
@@ -84,7 +84,7 @@ fn fill<K: Kind>(words: &[u16], list: &mut [K])
     requires { Readable K.Kind.coding.width K.Kind.coding.limit (length list.old) words.now }
     ensures { flat_map K.Kind.coding.words list.new ≡ words.now }
 {
-    let width = K::width();
+    let width = K::WORDS;
     let mut rest = words;
     for slot in list.iter_mut() {
         let (front, back) = rest.split_at(width);

@@ -46,7 +46,7 @@ pub(crate) fn push_centred(
 fn push_words<K: Kind>(heap: Global, text: &mut String, x: &K) -> Result<(), AllocError>
     ensures { OnOk result (string_bytes text.new ≡ string_bytes text.old ++ spaced decimal (K.Kind.coding.words x.now)) }
 {
-    for i in 0..K::width() {
+    for i in 0..K::WORDS {
         push_number(heap, text, &x.word(i))?;
     }
     Ok(())

@@ -1,5 +1,5 @@
 // W as a kind, bit by bit: its difference is its sum.
-ghost use Rattle.std.specs.Prelude.{◌≡◌};
+ghost use Rattle.std.specs.Prelude.{◌≡◌, refl};
 ghost use Rattle.kinds.specs.Bits.{of_bits, ops as bit-ops, coding as bit-coding};
 ghost use Rattle.kinds.specs.BitLaws.{laws as bit-laws, codes as bit-codes};
 
@@ -24,13 +24,15 @@ impl Kind for W {
 
     const WORDS: usize = 2;
 
-    fn width() -> usize {
-        Self::WORDS
-    }
+    const LIMIT: u32 = 65536;
 
-    fn limit() -> u32 {
-        65536
-    }
+    ghost WORDS = { 2 };
+
+    ghost LIMIT = { 65536 };
+
+    ghost words_is = { refl };
+
+    ghost limit_is = { refl };
 
     fn zero() -> W {
         of_bits(0)

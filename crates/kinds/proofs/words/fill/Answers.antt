@@ -10,14 +10,15 @@ pub split_at-requires : goal.split_at-requires
 split_at-requires g c =
     omega (
       arith,
-      c.width-width.ensures,
+      c.WORDS-width.ensures,
+      g.met.K.Kind.words_is,
       filled_enough g.K.Kind.coding (length c.args.list.now) c.args.words.now
           c.loop-slot.slot-index c.loop-slot.list c.loop-slot.rest.now c.loop-slot-test.true c.loop-slot.invariant,
     )
 
 pub loop-slot-preserved : goal.loop-slot-preserved
 loop-slot-preserved g c =
-    simp (c.from_words.ensures, c.split_at.ensures.front, c.split_at.ensures.back, c.width-width.ensures)
+    simp (c.from_words.ensures, c.split_at.ensures.front, c.split_at.ensures.back, c.WORDS-width.ensures, g.met.K.Kind.words_is)
     (filled_more g.K.Kind.coding (length c.args.list.now) c.args.words.now g.K.Kind.codes
     c.loop-slot.slot-index c.loop-slot.list c.loop-slot.rest.now c.loop-slot-test.true c.loop-slot.auto.list c.loop-slot.invariant)
 

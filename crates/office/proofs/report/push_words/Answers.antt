@@ -11,7 +11,7 @@ loop-i-init g c = sym (append-nil (string_bytes c.args.text.now))
 pub loop-i-preserved : goal.loop-i-preserved
 loop-i-preserved g c =
     let ws = g.K.Kind.coding.words c.args.x.now in
-    let within : c.loop-i.i < length ws = omega (arith, (g.K.Kind.codes.readable c.args.x.now).counted) in
+    let within : c.loop-i.i < length ws = omega (arith, g.met.K.Kind.words_is, (g.K.Kind.codes.readable c.args.x.now).counted) in
     spaced_more decimal ws c.loop-i.i c.word.result
     (string_bytes c.args.text.now) (string_bytes c.loop-i.text) (string_bytes c.push_number.new.text)
     within (c.word.ensures ∙ get_or_default ws c.loop-i.i 0 c.word.result within) c.loop-i.invariant
@@ -20,4 +20,4 @@ loop-i-preserved g c =
 pub returns : goal.returns
 returns g c =
     let ws = g.K.Kind.coding.words c.args.x.now in
-    c.loop-i.invariant ∙ ap (λ vs. string_bytes c.args.text.now ++ spaced decimal vs) (take_all c.loop-i.i ws (omega (arith, (g.K.Kind.codes.readable c.args.x.now).counted)))
+    c.loop-i.invariant ∙ ap (λ vs. string_bytes c.args.text.now ++ spaced decimal vs) (take_all c.loop-i.i ws (omega (arith, g.met.K.Kind.words_is, (g.K.Kind.codes.readable c.args.x.now).counted)))
