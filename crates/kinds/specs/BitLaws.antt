@@ -110,7 +110,7 @@ apart a b low high =
     let u : (a + 65536 * b) / 65536 ≡ b = omega arith in
     ap₂ (λ x y. x ∷ y ∷ []) (ap (λ n. n % 65536) whole ∙ l) (ap (λ n. n / 65536) whole ∙ u)
 
-halves_element : (ws : List ℕ) → Readable 2 65536 1 ws → halves (coding.element ws) ≡ ws
+halves_element : (ws : List ℕ) → Readable coding 1 ws → halves (coding.element ws) ≡ ws
 halves_element [] h = absurd (omega (arith, h.counted))
 halves_element (a ∷ []) h = absurd (omega (arith, h.counted))
 halves_element (a ∷ b ∷ []) h = apart a b (h.small 0 (omega arith)) (h.small 1 (omega arith))

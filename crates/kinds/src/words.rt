@@ -1,7 +1,7 @@
 // Elements as words of 16 bits.
 ghost use Rattle.std.specs.Prelude.{◌≡◌, length, slice_index};
 ghost use Rattle.std.specs.List.{flat_map};
-ghost use Rattle.kinds.specs.Words.{Readable, Judged, OneJudged, Reads, Lists, Shows};
+ghost use Rattle.kinds.specs.Words.{Readable, Judged, Reads, Lists, Shows};
 
 use crate::refusals::Refusal;
 use crate::traits::Kind;
@@ -10,7 +10,7 @@ use crate::traits::Kind;
 pub fn read<K: Kind>(words: &[u16]) -> Result<K, Refusal>
     ensures { Reads K.Kind.coding words.now result }
 {
-    judge_one::<K>(words)?;
+    judge::<K>(words, 1)?;
     Ok(K::from_words(words))
 }
 
@@ -29,7 +29,7 @@ pub fn show<K: Kind>(x: &K, out: &mut [u16]) -> Result<(), Refusal>
 pub fn read_list<K: Kind>(words: &[u16], list: &mut [K]) -> Result<(), Refusal>
     ensures { Lists K.Kind.coding words.now list.old list.new result }
 {
-    judge(words, list.len(), K::WORDS, K::LIMIT)?;
+    judge::<K>(words, list.len())?;
     fill(words, list);
     Ok(())
 }
@@ -38,35 +38,24 @@ pub fn read_list<K: Kind>(words: &[u16], list: &mut [K]) -> Result<(), Refusal>
 pub fn word_at(words: &[u16], place: usize) -> u16
     ensures { result ≡ slice_index words.now place }
 {
-    if place < words.len() { words[place] } else { 0 }
+    words.get(place).copied().unwrap_or(0)
 }
 
-// Refuses words that are not those of m elements of so many words each, all below the limit.
-fn judge(words: &[u16], m: usize, width: usize, limit: u32) -> Result<(), Refusal>
-    ensures { Judged width limit m words.now result }
+// Refuses words that are not those of m elements.
+fn judge<K: Kind>(words: &[u16], m: usize) -> Result<(), Refusal>
+    ensures { Judged K.Kind.coding m words.now result }
 {
-    let Some(count) = m.checked_mul(width) else {
-        return Err(Refusal::WordCount);
-    };
+    let count = m.checked_mul(K::WORDS).ok_or(Refusal::WordCount)?;
     if words.len() != count {
         return Err(Refusal::WordCount);
     }
-    for (place, word) in words.iter().enumerate() {
-        if u32::from(*word) >= limit {
-            return Err(Refusal::CoefficientTooLarge {
-                element: place / width,
-                exponent: place % width,
-            });
-        }
+    match words.iter().position(|word| u32::from(*word) >= K::LIMIT) {
+        None => Ok(()),
+        Some(place) => Err(Refusal::CoefficientTooLarge {
+            element: place / K::WORDS,
+            exponent: place % K::WORDS,
+        }),
     }
-    Ok(())
-}
-
-// Judges the words of one element: what reading them answers is then settled.
-fn judge_one<K: Kind>(words: &[u16]) -> Result<(), Refusal>
-    ensures { OneJudged K.Kind.coding words.now result }
-{
-    judge(words, 1, K::WORDS, K::LIMIT)
 }
 
 // Writes the element's words into a buffer that is as long.
@@ -81,7 +70,7 @@ fn put<K: Kind>(x: &K, out: &mut [u16])
 
 // Writes the elements of readable words.
 fn fill<K: Kind>(words: &[u16], list: &mut [K])
-    requires { Readable K.Kind.coding.width K.Kind.coding.limit (length list.old) words.now }
+    requires { Readable K.Kind.coding (length list.old) words.now }
     ensures { flat_map K.Kind.coding.words list.new ≡ words.now }
 {
     let width = K::WORDS;

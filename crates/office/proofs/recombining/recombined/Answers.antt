@@ -6,5 +6,5 @@ use Rattle.office.proofs.recombining.recombined.Goals as goal
 pub returns : goal.returns
 returns g c =
     let C = g.K.Kind.coding in
-    subst (λ m. Unread C.width C.limit m c.args.words.now c.in-Err.refusal)
+    subst (λ m. Unread C m c.args.words.now c.in-Err.refusal)
     (c.deref_mut.ensures.len ∙ c.in_ok-list.ensures.len) c.in-Err.ensures
