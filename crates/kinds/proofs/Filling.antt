@@ -1,6 +1,6 @@
 -- A list of n elements that is filled from readable words, one element after another. Assumes nothing.
-use Rattle.std.proofs.Common.{◌≡◌, ℕ, ◌+◌, ◌-◌, ◌*◌, ◌<◌, ◌≤◌, List, [], ◌++◌, length, take, drop, set, sym, refl, ap, ◌∙◌, subst, ap₂, add-mul, zero-mul, arith}
-use Rattle.std.proofs.lemmas.List.{append-nil, append_assoc, take-append-drop, length-take, length-drop, get_or-take, get_or-drop, take_more_set, take_all, flat_map_more, nil_from_length}
+use Rattle.std.proofs.Common.{◌≡◌, ℕ, ◌+◌, ◌-◌, ◌*◌, ◌<◌, List, [], ◌++◌, length, take, drop, set, sym, ap, ◌∙◌, subst, add-mul, arith}
+use Rattle.std.proofs.lemmas.List.{append_assoc, take-append-drop, length-take, length-drop, get_or-take, get_or-drop, take_more_set, flat_map_more}
 use Rattle.std.specs.List.{flat_map}
 use Rattle.kinds.specs.Words.{Coding, Codes, Readable}
 
@@ -33,12 +33,6 @@ module _ {M : Type 0} (C : Coding M) (n : ℕ) (ws : List ℕ) where
   left : (i : ℕ) (rest : List ℕ) → i < n → Readable C (n - i) rest → Readable C ((n - (i + 1)) + 1) rest
   left i rest h = subst (λ k. Readable C k rest) (omega arith)
 
-  pub filled_none : (xs : List M) → Readable C n ws → Filled 0 xs ws
-  filled_none xs good = (subst (λ k. Readable C k ws) (omega arith) good, refl)
-
-  pub filled_enough : (i : ℕ) (xs : List M) (rest : List ℕ) → i < n → Filled i xs rest → C.width ≤ length rest
-  filled_enough i xs rest h filled = omega (arith, front_counted C (n - (i + 1)) rest (left i rest h filled.0))
-
   pub filled_more : Codes C → (i : ℕ) (xs : List M) (rest : List ℕ) → i < n → length xs ≡ n → Filled i xs rest → Filled (i + 1) (set xs i (C.element (take C.width rest))) (drop C.width rest)
   filled_more codes i xs rest h long filled =
       let x = C.element (take C.width rest) in
@@ -53,11 +47,3 @@ module _ {M : Type 0} (C : Coding M) (n : ℕ) (ws : List ℕ) where
             ∙ ap (λ vs. flat_map C.words (take i xs) ++ vs) (take-append-drop C.width rest)
             ∙ filled.1,
       )
-
-  pub filled_all : (i : ℕ) (xs : List M) (rest : List ℕ) → n ≤ i → length xs ≡ n → Filled i xs rest → flat_map C.words xs ≡ ws
-  filled_all i xs rest h long filled =
-      let none : n - i ≡ 0 = omega arith in
-      let empty : rest ≡ [] = nil_from_length rest (filled.0.counted ∙ ap (λ k. k * C.width) none ∙ zero-mul C.width) in
-      sym (append-nil (flat_map C.words xs))
-      ∙ ap₂ (λ ys vs. flat_map C.words ys ++ vs) (sym (take_all i xs (omega arith))) (sym empty)
-      ∙ filled.1

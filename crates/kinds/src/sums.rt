@@ -6,7 +6,7 @@ use crate::traits::Kind;
 
 // The element that the shares make up; of no shares, zero.
 pub fn recombine<K: Kind>(shares: &[K]) -> K
-    ensures { result ≡ total K.Kind.ops K.Kind.ops.zero shares.now }
+    ensures { result ≡ total K.ops K.ops.zero shares.now }
 {
     shares.iter().fold(K::zero(), |sum, share| sum.plus(share))
 }

@@ -48,8 +48,8 @@ pub trait Kind: Copy {
 // A kind whose products are computed too.
 pub trait Ring: Kind {
     fn one() -> Self
-        ensures { result ≡ Self.Kind.ops.one };
+        ensures { result ≡ Self.ops.one };
 
     fn times(&self, other: &Self) -> Self
-        ensures { result ≡ Self.Kind.ops.times self.now other.now };
+        ensures { result ≡ Self.ops.times self.now other.now };
 }

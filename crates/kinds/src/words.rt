@@ -8,7 +8,7 @@ use crate::traits::Kind;
 
 // The element whose words these are.
 pub fn read<K: Kind>(words: &[u16]) -> Result<K, Refusal>
-    ensures { Reads K.Kind.coding words.now result }
+    ensures { Reads K.coding words.now result }
 {
     judge::<K>(words, 1)?;
     Ok(K::from_words(words))
@@ -16,7 +16,7 @@ pub fn read<K: Kind>(words: &[u16]) -> Result<K, Refusal>
 
 // Writes the element's words into the buffer.
 pub fn show<K: Kind>(x: &K, out: &mut [u16]) -> Result<(), Refusal>
-    ensures { Shows K.Kind.coding.width (K.Kind.coding.words x.now) out.old out.new result }
+    ensures { Shows K.coding.width (K.coding.words x.now) out.old out.new result }
 {
     if out.len() != K::WORDS {
         return Err(Refusal::BufferLength);
@@ -27,7 +27,7 @@ pub fn show<K: Kind>(x: &K, out: &mut [u16]) -> Result<(), Refusal>
 
 // Reads as many elements as the list has. All words are judged before the first element is written.
 pub fn read_list<K: Kind>(words: &[u16], list: &mut [K]) -> Result<(), Refusal>
-    ensures { Lists K.Kind.coding words.now list.old list.new result }
+    ensures { Lists K.coding words.now list.old list.new result }
 {
     judge::<K>(words, list.len())?;
     fill(words, list);
@@ -43,7 +43,7 @@ pub fn word_at(words: &[u16], place: usize) -> u16
 
 // Refuses words that are not those of m elements.
 fn judge<K: Kind>(words: &[u16], m: usize) -> Result<(), Refusal>
-    ensures { Judged K.Kind.coding m words.now result }
+    ensures { Judged K.coding m words.now result }
 {
     let count = m.checked_mul(K::WORDS).ok_or(Refusal::WordCount)?;
     if words.len() != count {
@@ -60,23 +60,23 @@ fn judge<K: Kind>(words: &[u16], m: usize) -> Result<(), Refusal>
 
 // Writes the element's words into a buffer that is as long.
 fn put<K: Kind>(x: &K, out: &mut [u16])
-    requires { length out.old ≡ K.Kind.coding.width }
-    ensures { out.new ≡ K.Kind.coding.words x.now }
+    requires { length out.old ≡ K.coding.width }
+    ensures { out.new ≡ K.coding.words x.now }
 {
     for (i, word) in out.iter_mut().enumerate() {
         *word = x.word(i);
     }
 }
 
-// Writes the elements of readable words.
+// Writes the elements of readable words. An adapter of `iter_mut`, as a `zip` with `chunks_exact`, leaves nothing known
+// of what was written, and `chunks_exact` takes no 0, which `WORDS` may be.
 fn fill<K: Kind>(words: &[u16], list: &mut [K])
-    requires { Readable K.Kind.coding (length list.old) words.now }
-    ensures { flat_map K.Kind.coding.words list.new ≡ words.now }
+    requires { Readable K.coding (length list.old) words.now }
+    ensures { flat_map K.coding.words list.new ≡ words.now }
 {
-    let width = K::WORDS;
     let mut rest = words;
     for slot in list.iter_mut() {
-        let (front, back) = rest.split_at(width);
+        let (front, back) = rest.split_at(K::WORDS);
         *slot = K::from_words(front);
         rest = back;
     }

@@ -1,7 +1,7 @@
 // W as a kind, bit by bit: its difference is its sum.
 ghost use Rattle.std.specs.Prelude.{◌≡◌, refl};
-ghost use Rattle.kinds.specs.Bits.{of_bits, ops as bit-ops, coding as bit-coding};
-ghost use Rattle.kinds.specs.BitLaws.{laws as bit-laws, codes as bit-codes};
+ghost use Rattle.kinds.specs.Bits.{of_bits, ops as bit_ops, coding as bit_coding};
+ghost use Rattle.kinds.specs.BitLaws.{laws as bit_laws, codes as bit_codes};
 
 use super::W;
 use crate::traits::{Kind, Ring};
@@ -14,13 +14,13 @@ fn of_bits(bits: u32) -> W
 }
 
 impl Kind for W {
-    ghost ops = { bit-ops };
+    ghost ops = { bit_ops };
 
-    ghost laws = { bit-laws };
+    ghost laws = { bit_laws };
 
-    ghost coding = { bit-coding };
+    ghost coding = { bit_coding };
 
-    ghost codes = { bit-codes };
+    ghost codes = { bit_codes };
 
     const WORDS: usize = 2;
 
