@@ -7,10 +7,13 @@ use super::W;
 use crate::traits::{Kind, Ring};
 use crate::words::word_at;
 
-fn of_bits(bits: u32) -> W
-    ensures { result ≡ of_bits bits }
-{
-    W { bits }
+// The element of a number of 32 bits.
+impl From<u32> for W {
+    ghost from_gives = { λ bits x. x ≡ of_bits bits };
+
+    fn from(bits: u32) -> W {
+        W { bits }
+    }
 }
 
 impl Kind for W {
@@ -35,11 +38,11 @@ impl Kind for W {
     ghost limit_is = { refl };
 
     fn zero() -> W {
-        of_bits(0)
+        W::from(0)
     }
 
     fn plus(&self, other: &W) -> W {
-        of_bits(self.bits ^ other.bits)
+        W::from(self.bits ^ other.bits)
     }
 
     fn minus(&self, other: &W) -> W {
@@ -47,7 +50,7 @@ impl Kind for W {
     }
 
     fn from_words(words: &[u16]) -> W {
-        of_bits(u32::from(word_at(words, 0)) + 65536 * u32::from(word_at(words, 1)))
+        W::from(u32::from(word_at(words, 0)) + 65536 * u32::from(word_at(words, 1)))
     }
 
     fn word(&self, i: usize) -> u16 {
@@ -61,10 +64,10 @@ impl Kind for W {
 
 impl Ring for W {
     fn one() -> W {
-        of_bits(u32::MAX)
+        W::from(u32::MAX)
     }
 
     fn times(&self, other: &W) -> W {
-        of_bits(self.bits & other.bits)
+        W::from(self.bits & other.bits)
     }
 }
