@@ -20,7 +20,7 @@ pub record Product {M : Type 0} (R : Ops M) (C : Coding M) (ws : List ℕ) (z : 
 -- what an operation gives of its operands, or why their words are refused
 abbrev pub Computes : {M : Type 0} → Ops M → Coding M → Operation → List ℕ → Result M Refusal → Type 0
 Computes R C Times ws (Ok z) = Product R C ws z
-Computes R C Times ws (Err e) = Unread C.width C.limit 2 ws e
+Computes R C Times ws (Err e) = Unread C 2 ws e
 
 -- numbers with single spaces between them
 abbrev pub separated : List ℕ → List ℕ

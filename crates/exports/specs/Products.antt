@@ -12,7 +12,7 @@ Read {M} C ws = (x : M) × (C.words x ≡ ws)
 
 -- reading one element from these words is refused
 abbrev pub Misread : {M : Type 0} → Coding M → List ℕ → Refusal → Type 0
-Misread C ws e = Unread C.width C.limit 1 ws e
+Misread C ws e = Unread C 1 ws e
 
 -- Why there is no product: either count of words is wrong (1), or else a word is too large (2), or else the buffer has the wrong length (8).
 abbrev pub NoProduct : {M : Type 0} → Coding M → List ℕ → List ℕ → List ℕ → Refusal → Type 0

@@ -1,62 +1,33 @@
 -- A list of n elements that is filled from readable words, one element after another. Assumes nothing.
-use Rattle.std.proofs.Common.{◌≡◌, ℕ, ◌+◌, ◌-◌, ◌*◌, ◌<◌, ◌≤◌, List, [], ◌++◌, length, take, drop, set, sym, refl, ap, ◌∙◌, subst, ap₂, add-mul, zero-mul, arith}
-use Rattle.std.proofs.lemmas.List.{append-nil, append_assoc, take-append-drop, length-take, length-drop, get_or-take, get_or-drop, take_more_set, take_all, flat_map_more, nil_from_length}
+use Rattle.std.proofs.Common.{◌≡◌, ℕ, ◌+◌, ◌-◌, ◌*◌, ◌<◌, List, ◌++◌, length, take, drop, set, subst, add-mul, arith}
+use Rattle.std.proofs.lemmas.List.{take_more_set}
+use Rattle.std.proofs.lemmas.Grind.{common_steps}
 use Rattle.std.specs.List.{flat_map}
 use Rattle.kinds.specs.Words.{Coding, Codes, Readable}
 
--- the words of one element and of k more
-front_counted : (width limit k : ℕ) (ws : List ℕ) → Readable width limit (k + 1) ws → length ws ≡ width + k * width
-front_counted width limit k ws good = omega (arith, good.counted, add-mul k 1 width)
+module _ {M : Type 0} (C : Coding M) (k : ℕ) (ws : List ℕ) where
+  -- the words of one element and of k more
+  front_counted : Readable C (k + 1) ws → length ws ≡ C.width + k * C.width
+  front_counted good = omega (arith, good.counted, add-mul k 1 C.width)
 
-readable_front : (width limit k : ℕ) (ws : List ℕ) → Readable width limit (k + 1) ws → Readable width limit 1 (take width ws)
-readable_front width limit k ws good =
-    let long = front_counted width limit k ws good in
-    let some : length (take width ws) ≡ width = length-take width ws ∙ omega (arith, long) in
-    record {
-      counted = omega (arith, some);
-      small = λ i h. let below : i < width = omega (arith, some) in rw get_or-take (good.small i (omega (arith, long)));
-    }
+  readable_front : Readable C (k + 1) ws → Readable C 1 (take C.width ws)
+  readable_front good =
+      let long = front_counted good in
+      record { counted = grind (arith, common_steps); small = λ i h. grind (arith, common_steps, good.small i) }
 
-readable_back : (width limit k : ℕ) (ws : List ℕ) → Readable width limit (k + 1) ws → Readable width limit k (drop width ws)
-readable_back width limit k ws good =
-    let long = front_counted width limit k ws good in
-    let rest : length (drop width ws) ≡ k * width = length-drop width ws ∙ omega (arith, long) in
-    record { counted = rest; small = λ i h. rw get_or-drop (good.small (width + i) (omega (arith, long, rest))) }
+  readable_back : Readable C (k + 1) ws → Readable C k (drop C.width ws)
+  readable_back good =
+      let long = front_counted good in
+      record { counted = grind (arith, common_steps); small = λ i h. grind (arith, common_steps, good.small (C.width + i)) }
 
 module _ {M : Type 0} (C : Coding M) (n : ℕ) (ws : List ℕ) where
   -- the first i elements and the words that are left make up all the words
   abbrev pub Filled : ℕ → List M → List ℕ → Type 0
-  Filled i xs rest = Readable C.width C.limit (n - i) rest × (flat_map C.words (take i xs) ++ rest ≡ ws)
-
-  -- as long as an element is to come
-  left : (i : ℕ) (rest : List ℕ) → i < n → Readable C.width C.limit (n - i) rest → Readable C.width C.limit ((n - (i + 1)) + 1) rest
-  left i rest h = subst (λ k. Readable C.width C.limit k rest) (omega arith)
-
-  pub filled_none : (xs : List M) → Readable C.width C.limit n ws → Filled 0 xs ws
-  filled_none xs good = (subst (λ k. Readable C.width C.limit k ws) (omega arith) good, refl)
-
-  pub filled_enough : (i : ℕ) (xs : List M) (rest : List ℕ) → i < n → Filled i xs rest → C.width ≤ length rest
-  filled_enough i xs rest h filled = omega (arith, front_counted C.width C.limit (n - (i + 1)) rest (left i rest h filled.0))
+  Filled i xs rest = Readable C (n - i) rest × (flat_map C.words (take i xs) ++ rest ≡ ws)
 
   pub filled_more : Codes C → (i : ℕ) (xs : List M) (rest : List ℕ) → i < n → length xs ≡ n → Filled i xs rest → Filled (i + 1) (set xs i (C.element (take C.width rest))) (drop C.width rest)
   filled_more codes i xs rest h long filled =
       let x = C.element (take C.width rest) in
-      let good = left i rest h filled.0 in
-      let within : i < length xs = omega arith in
-      let words : C.words x ≡ take C.width rest = codes.words_element (take C.width rest) (readable_front C.width C.limit (n - (i + 1)) rest good) in (
-        readable_back C.width C.limit (n - (i + 1)) rest good,
-        ap (λ ys. flat_map C.words ys ++ drop C.width rest) (take_more_set xs i x within)
-            ∙ ap (λ vs. vs ++ drop C.width rest) (sym (flat_map_more C.words [] (take i xs) x))
-            ∙ append_assoc (flat_map C.words (take i xs)) (C.words x) (drop C.width rest)
-            ∙ ap (λ vs. flat_map C.words (take i xs) ++ (vs ++ drop C.width rest)) words
-            ∙ ap (λ vs. flat_map C.words (take i xs) ++ vs) (take-append-drop C.width rest)
-            ∙ filled.1,
-      )
-
-  pub filled_all : (i : ℕ) (xs : List M) (rest : List ℕ) → n ≤ i → length xs ≡ n → Filled i xs rest → flat_map C.words xs ≡ ws
-  filled_all i xs rest h long filled =
-      let none : n - i ≡ 0 = omega arith in
-      let empty : rest ≡ [] = nil_from_length rest (filled.0.counted ∙ ap (λ k. k * C.width) none ∙ zero-mul C.width) in
-      sym (append-nil (flat_map C.words xs))
-      ∙ ap₂ (λ ys vs. flat_map C.words ys ++ vs) (sym (take_all i xs (omega arith))) (sym empty)
-      ∙ filled.1
+      let good : Readable C ((n - (i + 1)) + 1) rest = subst (λ k. Readable C k rest) (omega arith) filled.0 in
+      let words : C.words x ≡ take C.width rest = codes.words_element (take C.width rest) (readable_front C (n - (i + 1)) rest good) in
+      (readable_back C (n - (i + 1)) rest good, grind (arith, common_steps, take_more_set, filled.1, words))

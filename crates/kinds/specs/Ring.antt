@@ -1,5 +1,6 @@
 -- The operations of a commutative ring, as every kind of element has them, their laws, and the sum of a list. Assumes nothing.
-use Rattle.std.specs.Prelude.{◌≡◌, List, [], ◌∷◌}
+use Rattle.std.specs.Prelude.{◌≡◌, List}
+use Rattle.std.specs.List.{fold}
 
 pub record Ops (M : Type 0) : Type 0 where
   pub zero : M
@@ -21,5 +22,4 @@ pub record Laws {M : Type 0} (R : Ops M) : Type 0 where
 
 -- the sum of a list, added to s from the left
 abbrev pub total : {M : Type 0} → Ops M → M → List M → M
-total R s [] = s
-total R s (x ∷ xs) = total R (R.plus s x) xs
+total R s xs = fold R.plus s xs

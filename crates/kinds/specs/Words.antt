@@ -12,49 +12,44 @@ pub record Coding (M : Type 0) : Type 0 where
   pub element : List ℕ → M
 
 -- the words of m elements: as many as they should be, and none too large
-pub record Readable (width limit m : ℕ) (ws : List ℕ) : Type 0 where
-  pub counted : length ws ≡ m * width
-  pub small : (i : ℕ) → i < length ws → slice_index ws i < limit
+pub record Readable {M : Type 0} (C : Coding M) (m : ℕ) (ws : List ℕ) : Type 0 where
+  pub counted : length ws ≡ m * C.width
+  pub small : (i : ℕ) → i < length ws → slice_index ws i < C.limit
 
 -- That elements and the words of one element are the same thing.
 pub record Codes {M : Type 0} (C : Coding M) : Type 0 where
-  pub readable : (x : M) → Readable C.width C.limit 1 (C.words x)
+  pub readable : (x : M) → Readable C 1 (C.words x)
   pub element_words : (x : M) → C.element (C.words x) ≡ x
-  pub words_element : (ws : List ℕ) → Readable C.width C.limit 1 ws → C.words (C.element ws) ≡ ws
+  pub words_element : (ws : List ℕ) → Readable C 1 ws → C.words (C.element ws) ≡ ws
 
 -- of the words of m elements, the one at this exponent of this element is too large
-pub record TooLarge (width limit m : ℕ) (ws : List ℕ) (element exponent : ℕ) : Type 0 where
-  pub counted : length ws ≡ m * width
+pub record TooLarge {M : Type 0} (C : Coding M) (m : ℕ) (ws : List ℕ) (element exponent : ℕ) : Type 0 where
+  pub counted : length ws ≡ m * C.width
   pub element_within : element < m
-  pub exponent_within : exponent < width
-  pub above : limit ≤ slice_index ws (element * width + exponent)
+  pub exponent_within : exponent < C.width
+  pub above : C.limit ≤ slice_index ws (element * C.width + exponent)
 
 -- why m elements are not read from words, by the refusal's number and values
-abbrev pub Unread : ℕ → ℕ → ℕ → List ℕ → Refusal → Type 0
-Unread width limit m ws e =
-    ((number e ≡ (1, [])) × (length ws ≢ m * width))
-    ⊎ ((i : ℕ) × (p : ℕ) × (number e ≡ (2, i ∷ p ∷ [])) × TooLarge width limit m ws i p)
+abbrev pub Unread : {M : Type 0} → Coding M → ℕ → List ℕ → Refusal → Type 0
+Unread C m ws e =
+    ((number e ≡ (1, [])) × (length ws ≢ m * C.width))
+    ⊎ ((i : ℕ) × (p : ℕ) × (number e ≡ (2, i ∷ p ∷ [])) × TooLarge C m ws i p)
 
 -- what is answered of words before any of them is used
-abbrev pub Judged : ℕ → ℕ → ℕ → List ℕ → Result (Unit {0}) Refusal → Type 0
-Judged width limit m ws (Ok u) = Readable width limit m ws
-Judged width limit m ws (Err e) = Unread width limit m ws e
+abbrev pub Judged : {M : Type 0} → Coding M → ℕ → List ℕ → Result (Unit {0}) Refusal → Type 0
+Judged C m ws (Ok u) = Readable C m ws
+Judged C m ws (Err e) = Unread C m ws e
 
 -- What reading one element answers: the words of an element are read as that element, and no others are read.
 pub record Reads {M : Type 0} (C : Coding M) (ws : List ℕ) (r : Result M Refusal) : Type 0 where
   pub same_words : (x : M) → r ≡ Ok x → C.words x ≡ ws
   pub same_element : (x : M) → C.words x ≡ ws → r ≡ Ok x
-  pub refused : (e : Refusal) → r ≡ Err e → Unread C.width C.limit 1 ws e
-
--- what reading one element answers once its words are judged
-abbrev pub OneJudged : {M : Type 0} → Coding M → List ℕ → Result (Unit {0}) Refusal → Type 0
-OneJudged C ws (Ok u) = Reads C ws (Ok (C.element ws))
-OneJudged C ws (Err e) = Reads C ws (Err e)
+  pub refused : (e : Refusal) → r ≡ Err e → Unread C 1 ws e
 
 -- What reading a list answers, and what the list holds before and after.
 abbrev pub Lists : {M : Type 0} → Coding M → List ℕ → List M → List M → Result (Unit {0}) Refusal → Type 0
 Lists C ws before after (Ok u) = flat_map C.words after ≡ ws
-Lists C ws before after (Err e) = Unread C.width C.limit (length before) ws e × (after ≡ before)
+Lists C ws before after (Err e) = Unread C (length before) ws e × (after ≡ before)
 
 -- What showing n values in a buffer answers, and what the buffer holds before and after.
 abbrev pub Shows : {X : Type 0} → ℕ → List X → List X → List X → Result (Unit {0}) Refusal → Type 0

@@ -35,7 +35,7 @@ pub enum Refusal {
 }
 
 impl Refusal {
-    // The number that the refusal is known by.
+    // The number that the refusal is known by: a view of it, for the C interface and for what is printed.
     pub fn number(&self) -> u8
         ensures { result ≡ (number self.now).0 }
     {
@@ -59,9 +59,7 @@ impl Refusal {
             Refusal::NotInvertible => 17,
         }
     }
-}
 
-impl Refusal {
     // What went wrong, in words.
     fn text(&self) -> &'static str
         ensures { result.now ≡ words self.now }

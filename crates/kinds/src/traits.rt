@@ -1,5 +1,5 @@
 // What every kind of element has: operations with their laws, and words.
-ghost use Rattle.std.specs.Prelude.{◌≡◌, slice_index};
+ghost use Rattle.std.specs.Prelude.{◌≡◌, ℕ, slice_index};
 ghost use Rattle.kinds.specs.Ring.{Ops, Laws};
 ghost use Rattle.kinds.specs.Words.{Coding, Codes};
 
@@ -16,13 +16,12 @@ pub trait Kind: Copy {
     // The count of words of an element.
     const WORDS: usize;
 
-    // The same count, as clauses name it.
-    fn width() -> usize
-        ensures { result ≡ coding.width };
-
     // Every word of an element is below this.
-    fn limit() -> u32
-        ensures { result ≡ coding.limit };
+    const LIMIT: u32;
+
+    ghost WORDS: { ℕ };
+
+    ghost LIMIT: { ℕ };
 
     fn zero() -> Self
         ensures { result ≡ ops.zero };
@@ -40,13 +39,17 @@ pub trait Kind: Copy {
     // One of the element's words, and 0 past them.
     fn word(&self, i: usize) -> u16
         ensures { result ≡ slice_index (coding.words self.now) i };
+
+    ghost words_is: { WORDS ≡ coding.width };
+
+    ghost limit_is: { LIMIT ≡ coding.limit };
 }
 
 // A kind whose products are computed too.
 pub trait Ring: Kind {
     fn one() -> Self
-        ensures { result ≡ Self.Kind.ops.one };
+        ensures { result ≡ Self.ops.one };
 
     fn times(&self, other: &Self) -> Self
-        ensures { result ≡ Self.Kind.ops.times self.now other.now };
+        ensures { result ≡ Self.ops.times self.now other.now };
 }

@@ -1,24 +1,24 @@
 // Elements as words of 16 bits.
 ghost use Rattle.std.specs.Prelude.{◌≡◌, length, slice_index};
 ghost use Rattle.std.specs.List.{flat_map};
-ghost use Rattle.kinds.specs.Words.{Readable, Judged, OneJudged, Reads, Lists, Shows};
+ghost use Rattle.kinds.specs.Words.{Readable, Judged, Reads, Lists, Shows};
 
 use crate::refusals::Refusal;
 use crate::traits::Kind;
 
 // The element whose words these are.
 pub fn read<K: Kind>(words: &[u16]) -> Result<K, Refusal>
-    ensures { Reads K.Kind.coding words.now result }
+    ensures { Reads K.coding words.now result }
 {
-    judge_one::<K>(words)?;
+    judge::<K>(words, 1)?;
     Ok(K::from_words(words))
 }
 
 // Writes the element's words into the buffer.
 pub fn show<K: Kind>(x: &K, out: &mut [u16]) -> Result<(), Refusal>
-    ensures { Shows K.Kind.coding.width (K.Kind.coding.words x.now) out.old out.new result }
+    ensures { Shows K.coding.width (K.coding.words x.now) out.old out.new result }
 {
-    if out.len() != K::width() {
+    if out.len() != K::WORDS {
         return Err(Refusal::BufferLength);
     }
     put(x, out);
@@ -27,9 +27,9 @@ pub fn show<K: Kind>(x: &K, out: &mut [u16]) -> Result<(), Refusal>
 
 // Reads as many elements as the list has. All words are judged before the first element is written.
 pub fn read_list<K: Kind>(words: &[u16], list: &mut [K]) -> Result<(), Refusal>
-    ensures { Lists K.Kind.coding words.now list.old list.new result }
+    ensures { Lists K.coding words.now list.old list.new result }
 {
-    judge(words, list.len(), K::width(), K::limit())?;
+    judge::<K>(words, list.len())?;
     fill(words, list);
     Ok(())
 }
@@ -38,56 +38,45 @@ pub fn read_list<K: Kind>(words: &[u16], list: &mut [K]) -> Result<(), Refusal>
 pub fn word_at(words: &[u16], place: usize) -> u16
     ensures { result ≡ slice_index words.now place }
 {
-    if place < words.len() { words[place] } else { 0 }
+    words.get(place).copied().unwrap_or(0)
 }
 
-// Refuses words that are not those of m elements of so many words each, all below the limit.
-fn judge(words: &[u16], m: usize, width: usize, limit: u32) -> Result<(), Refusal>
-    ensures { Judged width limit m words.now result }
+// Refuses words that are not those of m elements.
+fn judge<K: Kind>(words: &[u16], m: usize) -> Result<(), Refusal>
+    ensures { Judged K.coding m words.now result }
 {
-    let Some(count) = m.checked_mul(width) else {
-        return Err(Refusal::WordCount);
-    };
+    let count = m.checked_mul(K::WORDS).ok_or(Refusal::WordCount)?;
     if words.len() != count {
         return Err(Refusal::WordCount);
     }
-    for (place, word) in words.iter().enumerate() {
-        if u32::from(*word) >= limit {
-            return Err(Refusal::CoefficientTooLarge {
-                element: place / width,
-                exponent: place % width,
-            });
-        }
+    match words.iter().position(|word| u32::from(*word) >= K::LIMIT) {
+        None => Ok(()),
+        Some(place) => Err(Refusal::CoefficientTooLarge {
+            element: place / K::WORDS,
+            exponent: place % K::WORDS,
+        }),
     }
-    Ok(())
-}
-
-// Judges the words of one element: what reading them answers is then settled.
-fn judge_one<K: Kind>(words: &[u16]) -> Result<(), Refusal>
-    ensures { OneJudged K.Kind.coding words.now result }
-{
-    judge(words, 1, K::width(), K::limit())
 }
 
 // Writes the element's words into a buffer that is as long.
 fn put<K: Kind>(x: &K, out: &mut [u16])
-    requires { length out.old ≡ K.Kind.coding.width }
-    ensures { out.new ≡ K.Kind.coding.words x.now }
+    requires { length out.old ≡ K.coding.width }
+    ensures { out.new ≡ K.coding.words x.now }
 {
     for (i, word) in out.iter_mut().enumerate() {
         *word = x.word(i);
     }
 }
 
-// Writes the elements of readable words.
+// Writes the elements of readable words. An adapter of `iter_mut`, as a `zip` with `chunks_exact`, leaves nothing known
+// of what was written, and `chunks_exact` takes no 0, which `WORDS` may be.
 fn fill<K: Kind>(words: &[u16], list: &mut [K])
-    requires { Readable K.Kind.coding.width K.Kind.coding.limit (length list.old) words.now }
-    ensures { flat_map K.Kind.coding.words list.new ≡ words.now }
+    requires { Readable K.coding (length list.old) words.now }
+    ensures { flat_map K.coding.words list.new ≡ words.now }
 {
-    let width = K::width();
     let mut rest = words;
     for slot in list.iter_mut() {
-        let (front, back) = rest.split_at(width);
+        let (front, back) = rest.split_at(K::WORDS);
         *slot = K::from_words(front);
         rest = back;
     }

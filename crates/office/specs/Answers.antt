@@ -17,7 +17,7 @@ use Rattle.office.specs.declared.troubles.Trouble.TheVariants.{Memory}
 -- a text that the sum of m elements with these words gives, or why they are refused
 abbrev pub Reported : {M : Type 0} → Ops M → Coding M → (M → List ℕ) → ℕ → List ℕ → Result (String Global) Trouble → Type 0
 Reported {M} R C page m ws r =
-    Came (λ t. (x : M) × SumOf R C m ws x × (string_bytes t ≡ page x)) (Unread C.width C.limit m ws) r
+    Came (λ t. (x : M) × SumOf R C m ws x × (string_bytes t ≡ page x)) (Unread C m ws) r
 
 -- a polynomial's page has its words and its centred numbers
 abbrev pub Polynomial : {M : Type 0} → Ops M → Coding M → (M → List ℤ) → Header → List ℕ → Result (String Global) Trouble → Type 0

@@ -17,7 +17,7 @@ pub record SumOf {M : Type 0} (R : Ops M) (C : Coding M) (m : ℕ) (ws : List �
 -- what adding m elements answers, or why they are not read
 abbrev pub Summed : {M : Type 0} → Ops M → Coding M → ℕ → List ℕ → Result M Refusal → Type 0
 Summed R C m ws (Ok x) = SumOf R C m ws x
-Summed R C m ws (Err e) = Unread C.width C.limit m ws e
+Summed R C m ws (Err e) = Unread C m ws e
 
 -- P of what came, Q of a refusal; nothing is said where memory runs out, and no other trouble comes
 abbrev pub Came : {X : Type 0} → (X → Type 0) → (Refusal → Type 0) → Result X Trouble → Type 0
@@ -29,4 +29,4 @@ Came P Q (Err (Refused e)) = Q e
 Came P Q (Err Memory) = Unit {0}
 
 abbrev pub Recombined : {M : Type 0} → Ops M → Coding M → ℕ → List ℕ → Result M Trouble → Type 0
-Recombined R C m ws r = Came (SumOf R C m ws) (Unread C.width C.limit m ws) r
+Recombined R C m ws r = Came (SumOf R C m ws) (Unread C m ws) r

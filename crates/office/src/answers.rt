@@ -64,7 +64,7 @@ fn polynomial<P: Centred + Clone>(heap: Global, request: &Request) -> Result<Str
 fn centred_numbers<P: Centred>(heap: Global, x: &P) -> Result<Vec<i16>, AllocError>
     ensures { IfOk result (λ v. v.items ≡ P.Centred.numbers x.now) }
 {
-    let mut numbers = vec![in heap; 0; P::width()]?;
+    let mut numbers = vec![in heap; 0; P::WORDS]?;
     match x.centred(&mut numbers) {
         Ok(()) => Ok(numbers),
         Err(_) => unreachable(),

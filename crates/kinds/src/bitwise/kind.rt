@@ -1,43 +1,48 @@
 // W as a kind, bit by bit: its difference is its sum.
-ghost use Rattle.std.specs.Prelude.{◌≡◌};
-ghost use Rattle.kinds.specs.Bits.{of_bits, ops as bit-ops, coding as bit-coding};
-ghost use Rattle.kinds.specs.BitLaws.{laws as bit-laws, codes as bit-codes};
+ghost use Rattle.std.specs.Prelude.{◌≡◌, refl};
+ghost use Rattle.kinds.specs.Bits.{of_bits, ops as bit_ops, coding as bit_coding};
+ghost use Rattle.kinds.specs.BitLaws.{laws as bit_laws, codes as bit_codes};
 
 use super::W;
 use crate::traits::{Kind, Ring};
 use crate::words::word_at;
 
-fn of_bits(bits: u32) -> W
-    ensures { result ≡ of_bits bits }
-{
-    W { bits }
+// The element of a number of 32 bits.
+impl From<u32> for W {
+    ghost from_gives = { λ bits x. x ≡ of_bits bits };
+
+    fn from(bits: u32) -> W {
+        W { bits }
+    }
 }
 
 impl Kind for W {
-    ghost ops = { bit-ops };
+    ghost ops = { bit_ops };
 
-    ghost laws = { bit-laws };
+    ghost laws = { bit_laws };
 
-    ghost coding = { bit-coding };
+    ghost coding = { bit_coding };
 
-    ghost codes = { bit-codes };
+    ghost codes = { bit_codes };
 
     const WORDS: usize = 2;
 
-    fn width() -> usize {
-        Self::WORDS
-    }
+    const LIMIT: u32 = 65536;
 
-    fn limit() -> u32 {
-        65536
-    }
+    ghost WORDS = { 2 };
+
+    ghost LIMIT = { 65536 };
+
+    ghost words_is = { refl };
+
+    ghost limit_is = { refl };
 
     fn zero() -> W {
-        of_bits(0)
+        W::from(0)
     }
 
     fn plus(&self, other: &W) -> W {
-        of_bits(self.bits ^ other.bits)
+        W::from(self.bits ^ other.bits)
     }
 
     fn minus(&self, other: &W) -> W {
@@ -45,7 +50,7 @@ impl Kind for W {
     }
 
     fn from_words(words: &[u16]) -> W {
-        of_bits(u32::from(word_at(words, 0)) + 65536 * u32::from(word_at(words, 1)))
+        W::from(u32::from(word_at(words, 0)) + 65536 * u32::from(word_at(words, 1)))
     }
 
     fn word(&self, i: usize) -> u16 {
@@ -59,10 +64,10 @@ impl Kind for W {
 
 impl Ring for W {
     fn one() -> W {
-        of_bits(u32::MAX)
+        W::from(u32::MAX)
     }
 
     fn times(&self, other: &W) -> W {
-        of_bits(self.bits & other.bits)
+        W::from(self.bits & other.bits)
     }
 }

@@ -1,6 +1,8 @@
 // Polynomials as a kind.
+ghost use Rattle.std.specs.Prelude.{refl};
 ghost use Rattle.poly.specs.Elements.{ops as poly-ops, coding as poly-coding};
 ghost use Rattle.poly.specs.Laws.{laws as poly-laws, codes as poly-codes};
+ghost use Rattle.poly.specs.Modulus.{modulus};
 
 use super::Poly;
 use crate::served::{Served, Size};
@@ -18,13 +20,15 @@ impl<const N: usize, const M: u16> Kind for Poly<N, M> {
 
     const WORDS: usize = N;
 
-    fn width() -> usize {
-        N
-    }
+    const LIMIT: u32 = if M == 0 { 1 } else { M as u32 };
 
-    fn limit() -> u32 {
-        u32::from(M.max(1))
-    }
+    ghost WORDS = { N };
+
+    ghost LIMIT = { modulus M };
+
+    ghost words_is = { refl };
+
+    ghost limit_is = { refl };
 
     fn zero() -> Self {
         Self::reduced(&[])
