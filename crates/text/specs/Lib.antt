@@ -1,4 +1,5 @@
 -- The definitions that the contracts of `text` cite.
+pub mod Cuts
 pub mod Finding
 pub mod LineEnds
 pub mod Lines

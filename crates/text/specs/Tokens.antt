@@ -1,6 +1,7 @@
 -- White space, and the tokens of a byte list.
-use Rattle.std.specs.Prelude.{◌≡◌, ℕ, ◌+◌, Bool, true, false, cond, ◌||◌, List, [], ◌∷◌, ◌++◌, drop, Some, None, Option}
+use Rattle.std.specs.Prelude.{ℕ, ◌+◌, Bool, true, false, cond, ◌||◌, List, [], ◌∷◌, ◌++◌, drop}
 use Rattle.std.specs.Int.{is_in_range}
+use Rattle.std.specs.List.{before_first}
 use Rattle.text.specs.declared.tokens.Reader.{Reader}
 use Rattle.text.specs.declared.tokens.Token.{Token}
 
@@ -10,8 +11,7 @@ white b = (is_in_range 9 10 b || is_in_range 12 13 b) || is_in_range 32 32 b
 
 -- the bytes before the first white space
 abbrev pub run : List ℕ → List ℕ
-run [] = []
-run (b ∷ bs) = cond (white b) [] (b ∷ run bs)
+run bs = before_first white bs
 
 -- a token's bytes, and the offset of the first of them
 pub record Word : Type 0 where
@@ -42,8 +42,3 @@ to_come r = tokens_at r.at r.text.now
 -- a token of the code
 abbrev pub word : Token → Word
 word t = record { bytes = t.text.now; offset = t.at }
-
--- what `token` gives: the first of the tokens that were to come, or nothing where there were none
-abbrev pub Takes : List Word → Option Token → List Word → Type 0
-Takes before None after = (before ≡ []) × (after ≡ [])
-Takes before (Some t) after = before ≡ word t ∷ after
