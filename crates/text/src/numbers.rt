@@ -38,15 +38,11 @@ impl Token<'_> {
     }
 
     // The same, with the token's offset where it writes no such number.
+    #[tactic(auto, using(crate::proofs::Placing::placed_is))]
     pub fn read(&self, most: u64) -> Result<u64, Fault>
         ensures { result ≡ reading_of (word self.now) most }
     {
-        match self.number(most) {
-            Ok(n) => Ok(n),
-            Err(problem) => Err(Fault {
-                at: self.at,
-                problem,
-            }),
-        }
+        let at = self.at;
+        self.number(most).map_err(|problem| Fault { at, problem })
     }
 }
