@@ -17,10 +17,8 @@ fn decimal(text: &[u8], most: u64) -> Option<u128>
     let cut = u128::from(most) + 1;
     let mut value: u128 = 0;
     for b in text {
-        if !b.is_ascii_digit() {
-            return None;
-        }
-        value = (10 * value + u128::from(*b - b'0')).min(cut);
+        let digit = char::from(*b).to_digit(10)?;
+        value = (10 * value + u128::from(digit)).min(cut);
     }
     Some(value)
 }

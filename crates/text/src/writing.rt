@@ -25,12 +25,6 @@ pub fn push_numbers<T: Display>(
 ) -> Result<(), AllocError>
     ensures { OnOk result ((digits : T → List ℕ) → ((x : T) → T.Display.output x ≡ Some (digits x)) → string_bytes text.new ≡ string_bytes text.old ++ spaced digits numbers.now) }
 {
-    push_each(heap, text, numbers)
-}
-
-fn push_each<T: Display>(heap: Global, text: &mut String, numbers: &[T]) -> Result<(), AllocError>
-    ensures { OnOk result ((digits : T → List ℕ) → ((x : T) → T.Display.output x ≡ Some (digits x)) → string_bytes text.new ≡ string_bytes text.old ++ spaced digits numbers.now) }
-{
     for number in numbers {
         push_number(heap, text, number)?;
     }
