@@ -1,5 +1,5 @@
 -- The lines of a byte list: each ends before a line feed, byte 10, or at the end.
-use Rattle.std.specs.Prelude.{ℕ, ◌+◌, Bool, false, cond, not, List, [], ◌∷◌, ◌++◌, drop, ◌==◌}
+use Rattle.std.specs.Prelude.{ℕ, ◌+◌, Bool, false, if◌then◌else◌, not, List, [], ◌∷◌, ◌++◌, drop, ◌==◌}
 use Rattle.std.specs.List.{before_first}
 use Rattle.text.specs.Tokens.{Word, tokens_from}
 use Rattle.text.specs.declared.lines.LineReader.{LineReader}
@@ -10,7 +10,7 @@ first_line bs = before_first (λ b. b == 10) bs
 
 -- the tokens of the line that starts with bs at offset i; none if it goes on from before, `inside`
 abbrev pub starts_line : Bool → ℕ → List ℕ → List (List Word)
-starts_line inside i bs = cond inside [] (tokens_from false i (first_line bs) ∷ [])
+starts_line inside i bs = if inside then [] else tokens_from false i (first_line bs) ∷ []
 
 -- the tokens of each line that starts in bs, whose first byte has offset i; `inside` says that the byte before it is no line feed
 abbrev pub lines_from : Bool → ℕ → List ℕ → List (List Word)

@@ -1,5 +1,5 @@
 -- White space, and the tokens of a byte list.
-use Rattle.std.specs.Prelude.{ℕ, ◌+◌, Bool, true, false, cond, ◌||◌, List, [], ◌∷◌, ◌++◌, drop}
+use Rattle.std.specs.Prelude.{ℕ, ◌+◌, Bool, true, false, if◌then◌else◌, ◌||◌, List, [], ◌∷◌, ◌++◌, drop}
 use Rattle.std.specs.Int.{is_in_range}
 use Rattle.std.specs.List.{before_first}
 use Rattle.text.specs.declared.tokens.Reader.{Reader}
@@ -20,12 +20,12 @@ pub record Word : Type 0 where
 
 -- the token that starts with bs at offset i; none if it goes on from before, `inside`
 abbrev pub starts : Bool → ℕ → List ℕ → List Word
-starts inside i bs = cond inside [] (record { bytes = run bs; offset = i } ∷ [])
+starts inside i bs = if inside then [] else record { bytes = run bs; offset = i } ∷ []
 
 -- the tokens that start in bs, whose first byte has offset i; `inside` says that the byte before it is part of a token
 abbrev pub tokens_from : Bool → ℕ → List ℕ → List Word
 tokens_from inside i [] = []
-tokens_from inside i (b ∷ bs) = cond (white b) (tokens_from false (i + 1) bs) (starts inside i (b ∷ bs) ++ tokens_from true (i + 1) bs)
+tokens_from inside i (b ∷ bs) = if white b then tokens_from false (i + 1) bs else starts inside i (b ∷ bs) ++ tokens_from true (i + 1) bs
 
 -- the tokens of bs from offset i on
 abbrev pub tokens_at : ℕ → List ℕ → List Word
