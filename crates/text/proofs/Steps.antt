@@ -1,5 +1,6 @@
 -- A token and what stands around it, by the definitions of specs/Tokens.antt.
-use Rattle.std.proofs.Common.{◌≡◌, ℕ, ◌+◌, ◌<◌, Some, None, true, false, not, List, [], ◌∷◌, length, get_or, drop, sym, refl, ap, ◌∙◌, arith}
+use Rattle.std.proofs.Common.{◌≡◌, ℕ, ◌+◌, ◌<◌, Some, None, Bool, true, false, not, List, [], ◌∷◌, length, get_or, drop, sym, refl, ap, ◌∙◌, arith}
+use Rattle.std.specs.Char.{is_ascii_whitespace}
 use Rattle.std.specs.List.{position, position_or_len}
 use Rattle.std.proofs.lemmas.Bool.{cond-true, cond-false, not-true, not-false}
 use Rattle.std.proofs.lemmas.Grind.{common_steps}
@@ -7,42 +8,45 @@ use Rattle.std.proofs.lemmas.List.{at_drop_more, drop_all, get_or-drop, length-d
 use Rattle.std.proofs.lemmas.List.Folds.{length-prefix_len}
 use Rattle.std.proofs.lemmas.List.Quantifiers.{position-Some}
 use Rattle.text.proofs.Cutting.{cut_at}
-use Rattle.text.specs.Tokens.{white, run, tokens_from, tokens_at}
+use Rattle.text.specs.Tokens.{run, tokens_from, tokens_at}
+
+abbrev pub in_token : ℕ → Bool
+in_token b = not (is_ascii_whitespace b)
 
 -- a token starts at a byte that is not white space
-token_starts : (i b : ℕ) (l : List ℕ) → white b ≡ false → tokens_from false i (b ∷ l) ≡ record { bytes = run (b ∷ l); offset = i } ∷ tokens_from true i (b ∷ l)
+token_starts : (i b : ℕ) (l : List ℕ) → is_ascii_whitespace b ≡ false → tokens_from false i (b ∷ l) ≡ record { bytes = run (b ∷ l); offset = i } ∷ tokens_from true i (b ∷ l)
 token_starts i b l e = cond-false _ _ _ e ∙ ap (λ ws. record { bytes = run (b ∷ l); offset = i } ∷ ws) (sym (cond-false _ _ _ e))
 
 module _ (bs : List ℕ) (i : ℕ) where
   -- white space holds no token
-  past_white : tokens_at i bs ≡ tokens_at (i + position_or_len (λ b. not (white b)) (drop i bs)) bs
+  past_white : tokens_at i bs ≡ tokens_at (i + position_or_len in_token (drop i bs)) bs
   past_white =
-      cut_at (λ b. not (white b)) (tokens_from false) (tokens_from false)
+      cut_at in_token (tokens_from false) (tokens_from false)
       (λ i. refl) (λ i b l e. cond-true _ _ _ (not-false _ e)) (λ i b l e. refl) i bs
 
   -- nor does the rest of a token hold another one
   past_token : tokens_from true i (drop i bs) ≡ tokens_at (i + length (run (drop i bs))) bs
   past_token =
-      cut_at white (tokens_from true) (tokens_from false)
+      cut_at is_ascii_whitespace (tokens_from true) (tokens_from false)
       (λ i. refl) (λ i b l e. cond-false _ _ _ e) (λ i b l e. cond-true _ _ _ e ∙ sym (cond-true _ _ _ e)) i bs
-      ∙ ap (λ n. tokens_at (i + n) bs) (sym (length-prefix_len (λ b. not (white b)) (drop i bs)))
+      ∙ ap (λ n. tokens_at (i + n) bs) (sym (length-prefix_len in_token (drop i bs)))
 
-  token_here : i < length bs → white (get_or bs i 0) ≡ false → tokens_at i bs ≡ record { bytes = run (drop i bs); offset = i } ∷ tokens_from true i (drop i bs)
+  token_here : i < length bs → is_ascii_whitespace (get_or bs i 0) ≡ false → tokens_at i bs ≡ record { bytes = run (drop i bs); offset = i } ∷ tokens_from true i (drop i bs)
   token_here h e =
       at_drop_more (tokens_from false i) bs i 0 h
       ∙ token_starts i (get_or bs i 0) (drop (i + 1) bs) e
       ∙ sym (at_drop_more (λ l. record { bytes = run l; offset = i } ∷ tokens_from true i l) bs i 0 h)
 
 module _ (bs : List ℕ) (i : ℕ) where
-  pub no_token : position (λ b. not (white b)) (drop i bs) ≡ None → tokens_at i bs ≡ []
+  pub no_token : position in_token (drop i bs) ≡ None → tokens_at i bs ≡ []
   no_token none = past_white bs i ∙ ap (tokens_from false _) (drop_all _ bs (grind (arith, common_steps)))
 
   -- the first token starts n bytes on
-  pub token_next : (n : ℕ) (word : List ℕ) → position (λ b. not (white b)) (drop i bs) ≡ Some n → word ≡ run (drop (i + n) bs) → tokens_at i bs ≡ record { bytes = word; offset = i + n } ∷ tokens_at (i + n + length word) bs
+  pub token_next : (n : ℕ) (word : List ℕ) → position in_token (drop i bs) ≡ Some n → word ≡ run (drop (i + n) bs) → tokens_at i bs ≡ record { bytes = word; offset = i + n } ∷ tokens_at (i + n + length word) bs
   token_next n word found is =
-      let at : position_or_len (λ b. not (white b)) (drop i bs) ≡ n = grind (arith, common_steps) in
-      let starts = position-Some (λ b. not (white b)) (drop i bs) n 0 found in
-      let other : white (get_or bs (i + n) 0) ≡ false = ap white (sym (get_or-drop i bs n 0)) ∙ not-true _ starts.1 in
+      let at : position_or_len in_token (drop i bs) ≡ n = grind (arith, common_steps) in
+      let starts = position-Some in_token (drop i bs) n 0 found in
+      let other : is_ascii_whitespace (get_or bs (i + n) 0) ≡ false = ap is_ascii_whitespace (sym (get_or-drop i bs n 0)) ∙ not-true _ starts.1 in
       past_white bs i
       ∙ ap (λ k. tokens_at (i + k) bs) at
       ∙ token_here bs (i + n) (omega (arith, length-drop i bs, starts.0)) other

@@ -1,17 +1,13 @@
 -- White space, and the tokens of a byte list.
-use Rattle.std.specs.Prelude.{ℕ, ◌+◌, Bool, true, false, if◌then◌else◌, ◌||◌, List, [], ◌∷◌, ◌++◌, drop}
-use Rattle.std.specs.Int.{is_in_range}
+use Rattle.std.specs.Prelude.{ℕ, ◌+◌, Bool, true, false, if◌then◌else◌, List, [], ◌∷◌, ◌++◌, drop}
+use Rattle.std.specs.Char.{is_ascii_whitespace}
 use Rattle.std.specs.List.{before_first}
 use Rattle.text.specs.declared.tokens.Reader.{Reader}
 use Rattle.text.specs.declared.tokens.Token.{Token}
 
--- white space: tab 9, line feed 10, form feed 12, carriage return 13 and space 32
-abbrev pub white : ℕ → Bool
-white b = (is_in_range 9 10 b || is_in_range 12 13 b) || is_in_range 32 32 b
-
--- the bytes before the first white space
+-- the bytes before the first white space: tab 9, line feed 10, form feed 12, carriage return 13 or space 32
 abbrev pub run : List ℕ → List ℕ
-run bs = before_first white bs
+run bs = before_first is_ascii_whitespace bs
 
 -- a token's bytes, and the offset of the first of them
 pub record Word : Type 0 where
@@ -25,7 +21,7 @@ starts inside i bs = if inside then [] else record { bytes = run bs; offset = i 
 -- the tokens that start in bs, whose first byte has offset i; `inside` says that the byte before it is part of a token
 abbrev pub tokens_from : Bool → ℕ → List ℕ → List Word
 tokens_from inside i [] = []
-tokens_from inside i (b ∷ bs) = if white b then tokens_from false (i + 1) bs else starts inside i (b ∷ bs) ++ tokens_from true (i + 1) bs
+tokens_from inside i (b ∷ bs) = if is_ascii_whitespace b then tokens_from false (i + 1) bs else starts inside i (b ∷ bs) ++ tokens_from true (i + 1) bs
 
 -- the tokens of bs from offset i on
 abbrev pub tokens_at : ℕ → List ℕ → List Word
