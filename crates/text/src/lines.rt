@@ -1,14 +1,14 @@
 // Lines: each ends before a line feed, or at the end of the text.
-ghost use Rattle.std.specs.Prelude.{◌≡◌};
+ghost use Rattle.std.specs.Prelude.{◌≡◌, ◌+◌, [], ◌∷◌, length, MatchOption};
 ghost use Rattle.std.specs.Iterator.{YieldsFirstBy, item_count};
-ghost use Rattle.text.specs.LineEnds.{StartsWithLine};
-ghost use Rattle.text.specs.Lines.{first_line, lines_of, lines_to_come};
+ghost use Rattle.text.specs.Lines.{first_line, lines_at, lines_of, lines_to_come};
 ghost use Rattle.text.specs.Tokens.{to_come};
 
 use crate::cuts::before;
 use crate::tokens::Reader;
 
 // Gives the lines of `text` from offset `at` on, one after another.
+// A type apart from `Reader`, as std's `Lines` is from `Chars`: the type says what comes.
 #[derive(Drop)]
 pub struct LineReader<'a> {
     pub text: &'a [u8],
@@ -41,7 +41,7 @@ impl<'a> LineReader<'a> {
 
     // The same, and the line is still to come.
     fn peek(&self) -> Option<Reader<'a>>
-        ensures { StartsWithLine self.now.text.now self.now.at result }
+        ensures { MatchOption result (lines_to_come self.now ≡ []) (λ r. lines_to_come self.now ≡ to_come r ∷ lines_at (length r.text.now + 1) self.now.text.now) }
     {
         let ahead = self.text.get(self.at..)?;
         if ahead.is_empty() {

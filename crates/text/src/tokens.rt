@@ -1,8 +1,7 @@
 // Tokens: the longest runs of bytes that are not white space.
-ghost use Rattle.std.specs.Prelude.{◌≡◌, ◌+◌, ◌≤◌, length, IfSome};
+ghost use Rattle.std.specs.Prelude.{◌≡◌, ◌+◌, ◌≤◌, [], ◌∷◌, length, IfSome, MatchOption};
 ghost use Rattle.std.specs.Iterator.{YieldsFirstBy, item_count};
-ghost use Rattle.text.specs.Finding.{StartsWithToken};
-ghost use Rattle.text.specs.Tokens.{tokens_of, to_come, word};
+ghost use Rattle.text.specs.Tokens.{tokens_at, tokens_of, to_come, word};
 
 use crate::cuts::before;
 
@@ -41,7 +40,7 @@ impl<'a> Reader<'a> {
 
     // The same, and the token is still to come.
     fn peek(&self) -> Option<Token<'a>>
-        ensures token { StartsWithToken self.now.text.now self.now.at result }
+        ensures first { MatchOption result (to_come self.now ≡ []) (λ t. to_come self.now ≡ word t ∷ tokens_at (t.at + length t.text.now) self.now.text.now) }
         ensures within { IfSome result (λ t. t.at + length t.text.now ≤ length self.now.text.now) }
     {
         let ahead = self.text.get(self.at..)?;
