@@ -41,7 +41,8 @@ impl<'a> LineReader<'a> {
 
     // The same, and the line is still to come.
     fn peek(&self) -> Option<Reader<'a>>
-        ensures { MatchOption result (lines_to_come self.now ≡ []) (λ r. lines_to_come self.now ≡ to_come r ∷ lines_at (length r.text.now + 1) self.now.text.now) }
+        ensures { MatchOption result (lines_to_come self.now ≡ [])
+            (λ r. lines_to_come self.now ≡ to_come r ∷ lines_at (length r.text.now + 1) self.now.text.now) }
     {
         let ahead = self.text.get(self.at..)?;
         if ahead.is_empty() {

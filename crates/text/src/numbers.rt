@@ -9,7 +9,8 @@ use crate::tokens::Token;
 
 // The number that `text` writes, or the largest of 128 bits where it is larger; `None` where it writes none.
 fn decimal(text: &[u8]) -> Option<u128>
-    ensures { MatchOption result (is_number text.now ≡ false) (λ v. (is_number text.now ≡ true) × (v ≡ min (value_of text.now) (2 ^ 128 - 1))) }
+    ensures { MatchOption result (is_number text.now ≡ false)
+        (λ v. (is_number text.now ≡ true) × (v ≡ min (value_of text.now) (2 ^ 128 - 1))) }
 {
     if text.is_empty() {
         return None;

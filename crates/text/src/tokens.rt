@@ -40,7 +40,8 @@ impl<'a> Reader<'a> {
 
     // The same, and the token is still to come.
     fn peek(&self) -> Option<Token<'a>>
-        ensures first { MatchOption result (to_come self.now ≡ []) (λ t. to_come self.now ≡ word t ∷ tokens_at (t.at + length t.text.now) self.now.text.now) }
+        ensures first { MatchOption result (to_come self.now ≡ [])
+            (λ t. to_come self.now ≡ word t ∷ tokens_at (t.at + length t.text.now) self.now.text.now) }
         ensures within { IfSome result (λ t. t.at + length t.text.now ≤ length self.now.text.now) }
     {
         let ahead = self.text.get(self.at..)?;
@@ -57,6 +58,7 @@ impl<'a> Iterator for Reader<'a> {
 
     ghost remaining = { item_count to_come };
 
+    // `token` says besides that the text stays.
     fn next(&mut self) -> Option<Token<'a>> {
         self.token()
     }
