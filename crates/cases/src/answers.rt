@@ -26,11 +26,11 @@ pub fn answer(heap: Global, input: &[u8]) -> Result<String, Trouble>
 }
 
 // The results of the lines to come.
-fn all(heap: Global, mut lines: LineReader) -> Result<String, Trouble>
+fn all(heap: Global, lines: LineReader) -> Result<String, Trouble>
     ensures { UnlessMemory (Lines (lines_to_come lines.entry)) result }
 {
     let mut text = String::new(heap);
-    while let Some(line) = lines.line() {
+    for line in lines {
         let result = one(heap, line)?;
         text.push_str(result.as_str())?;
     }

@@ -22,7 +22,7 @@ fn separated(heap: Global, numbers: &[u16]) -> Result<String, AllocError>
         [] => Ok(String::new(heap)),
         [first, rest @ ..] => {
             let mut text = format!(in heap; "{first}")?;
-            push_numbers(heap, &mut text, rest)?;
+            push_numbers(&mut text, rest)?;
             Ok(text)
         }
     }

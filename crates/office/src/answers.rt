@@ -57,7 +57,7 @@ fn polynomial<P: Centred + Clone>(heap: Global, request: &Request) -> Result<Str
     let sum: P = recombined(heap, &request.words, request.header.shares)?;
     let mut text = element_lines(heap, request.header, &sum)?;
     let numbers = centred_numbers(heap, &sum)?;
-    push_centred(heap, &mut text, &numbers)?;
+    push_centred(&mut text, &numbers)?;
     Ok(text)
 }
 

@@ -18,7 +18,7 @@ pub(crate) fn element_lines<K: Kind>(
 {
     let words = shown(heap, sum)?;
     let mut text = heading(heap, header)?;
-    push_numbers(heap, &mut text, &words)?;
+    push_numbers(&mut text, &words)?;
     text.push_str("\n")?;
     Ok(text)
 }
@@ -31,14 +31,10 @@ fn heading(heap: Global, header: Header) -> Result<String, AllocError>
 }
 
 // Appends the line for the centred numbers.
-pub(crate) fn push_centred(
-    heap: Global,
-    text: &mut String,
-    numbers: &[i16],
-) -> Result<(), AllocError>
+pub(crate) fn push_centred(text: &mut String, numbers: &[i16]) -> Result<(), AllocError>
     ensures { OnOk result (string_bytes text.new ≡ string_bytes text.old ++ centred_line numbers.now) }
 {
     text.push_str("centred:")?;
-    push_numbers(heap, text, numbers)?;
+    push_numbers(text, numbers)?;
     text.push_str("\n")
 }

@@ -1,4 +1,5 @@
 -- The lemmas that the proofs of `text` share.
+mod Cutting
 mod Lining
-pub mod Printing
+mod Placing
 mod Steps

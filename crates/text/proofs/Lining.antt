@@ -1,62 +1,37 @@
--- One byte on in a line: what the definitions of specs/Lines.antt say at i and at i + 1.
-use Rattle.std.proofs.Common.{◌≡◌, ℕ, ◌+◌, ◌<◌, ◌≤◌, true, false, not, List, [], ◌∷◌, ◌++◌, length, get_or, drop, sym, refl, ap, ◌∙◌, ⊎_elim, append_assoc, append-nil, arith}
-use Rattle.std.specs.List.{between}
-use Rattle.std.proofs.lemmas.List.Edits.{between_none, between_more}
-use Rattle.std.proofs.lemmas.List.{at_drop_more, at_drop_all}
-use Rattle.std.proofs.lemmas.Slice.{between_is}
-use Rattle.std.proofs.lemmas.Bool.{cases_lt, cond-true, cond-false, eq-eqb, ne_eqb}
-use Rattle.text.specs.LineEnds.{InLine, LineSpans}
+-- A line and what comes after it, by the definitions of specs/Lines.antt.
+use Rattle.std.proofs.Common.{◌≡◌, ℕ, ◌+◌, ◌<◌, true, false, not, List, ◌∷◌, length, take, drop, ◌==◌, sym, refl, ap, ◌∙◌, arith}
+use Rattle.std.specs.List.{position_or_len}
+use Rattle.std.proofs.lemmas.List.{at_drop_more, drop-drop, drop-take, length-take, length-drop}
+use Rattle.std.proofs.lemmas.List.Folds.{length-prefix_len}
+use Rattle.std.proofs.lemmas.List.Sums.{prefix_len-le-length}
+use Rattle.text.proofs.Cutting.{cut_at}
 use Rattle.text.specs.Lines.{first_line, lines_from, lines_at}
-use Rattle.text.specs.Tokens.{tokens_from}
+use Rattle.text.specs.Tokens.{tokens_from, tokens_at}
 
 module _ (bs : List ℕ) (i : ℕ) where
-  line_starts : i < length bs → lines_at i bs ≡ tokens_from false i (first_line (drop i bs)) ∷ lines_from true i (drop i bs)
-  line_starts h =
+  -- the next line starts behind the line feed
+  past_line : lines_from true i (drop i bs) ≡ lines_at (i + length (first_line (drop i bs)) + 1) bs
+  past_line =
+      cut_at (λ b. b == 10) (lines_from true) (λ i l. lines_from false (i + 1) (drop 1 l))
+      (λ i. refl) (λ i b l other. ap (λ t. lines_from (not t) (i + 1) l) other) (λ i b l feed. ap (λ t. lines_from (not t) (i + 1) l) feed) i bs
+      ∙ ap (lines_from false _) (drop-drop 1 _ bs)
+      ∙ ap (λ n. lines_at (i + n + 1) bs) (sym (length-prefix_len (λ b. not (b == 10)) (drop i bs)))
+
+  line_here : i < length bs → lines_at i bs ≡ tokens_from false i (first_line (drop i bs)) ∷ lines_from true i (drop i bs)
+  line_here h =
       at_drop_more (lines_from false i) bs i 0 h
       ∙ sym (at_drop_more (λ l. tokens_from false i (first_line l) ∷ lines_from true i l) bs i 0 h)
 
-  -- where the line goes on at i
-  module _ (h : i < length bs) (other : get_or bs i 0 ≡ 10 → ⊥) where
-    line_more : first_line (drop i bs) ≡ get_or bs i 0 ∷ first_line (drop (i + 1) bs)
-    line_more = at_drop_more first_line bs i 0 h ∙ cond-false _ _ _ (ne_eqb _ 10 other)
+  -- the first line is n bytes long
+  module _ (n : ℕ) (is : n ≡ length (first_line (drop i bs))) (h : i < length bs) where
+    len_is : n ≡ position_or_len (λ b. b == 10) (drop i bs)
+    len_is = is ∙ length-prefix_len (λ b. not (b == 10)) (drop i bs)
 
-    lines_more : lines_from true i (drop i bs) ≡ lines_from true (i + 1) (drop (i + 1) bs)
-    lines_more = at_drop_more (lines_from true i) bs i 0 h ∙ ap (λ t. lines_from (not t) (i + 1) (drop (i + 1) bs)) (ne_eqb _ 10 other)
+    pub line_ends : length (take (i + n) bs) ≡ i + n
+    line_ends = omega (arith, length-take (i + n) bs, length-drop i bs, prefix_len-le-length (λ b. not (b == 10)) (drop i bs), len_is)
 
-  -- where it ends at i
-  line_ends : (i < length bs → get_or bs i 0 ≡ 10) → first_line (drop i bs) ≡ []
-  line_ends stops =
-      ⊎_elim (λ h. at_drop_more first_line bs i 0 h ∙ cond-true _ _ _ (eq-eqb _ 10 (stops h))) (at_drop_all first_line bs i) (cases_lt i (length bs))
-
-  pub lines_feed : i < length bs → get_or bs i 0 ≡ 10 → lines_from true i (drop i bs) ≡ lines_at (i + 1) bs
-  lines_feed h feed = at_drop_more (lines_from true i) bs i 0 h ∙ ap (λ t. lines_from (not t) (i + 1) (drop (i + 1) bs)) (eq-eqb _ 10 feed)
-
-  pub lines_none : length bs ≤ i → lines_from true i (drop i bs) ≡ lines_at i bs
-  lines_none h = at_drop_all (lines_from true i) bs i h ∙ sym (at_drop_all (lines_from false i) bs i h)
-
-pub in_line_none : (bs : List ℕ) (from : ℕ) → InLine bs from from
-in_line_none bs from = record {
-  forward = omega arith;
-  within = λ h. h;
-  front = ap (λ l. l ++ first_line (drop from bs)) (sym (between_none bs from));
-  rest = refl;
-}
-
-pub in_line_more : (bs : List ℕ) (from i : ℕ) → i < length bs → (get_or bs i 0 ≡ 10 → ⊥) → InLine bs from i → InLine bs from (i + 1)
-in_line_more bs from i h other so = record {
-  forward = omega arith;
-  within = λ _. omega arith;
-  front = so.front ∙ ap (λ l. between from i bs ++ l) (line_more bs i h other) ∙ sym (append_assoc (between from i bs) (get_or bs i 0 ∷ []) _) ∙ ap (λ l. l ++ first_line (drop (i + 1) bs)) (sym (between_more bs from i 0 so.forward h));
-  rest = so.rest ∙ lines_more bs i h other;
-}
-
-module _ (bs : List ℕ) (from e : ℕ) (inside : InLine bs from e) (stops : e < length bs → get_or bs e 0 ≡ 10) where
-  pub line_between : first_line (drop from bs) ≡ between from e bs
-  line_between = inside.front ∙ ap (λ l. between from e bs ++ l) (line_ends bs e stops) ∙ append-nil _
-
-  -- a line that starts at from and stops at e, with the next one at n
-  pub line_spans : (n : ℕ) → from < length bs → lines_from true e (drop e bs) ≡ lines_at n bs → LineSpans bs from e n
-  line_spans n h next = record {
-    within = inside.within (omega arith);
-    lines = line_starts bs from h ∙ (λ k. tokens_from false from ((line_between ∙ between_is bs from e) k) ∷ (inside.rest ∙ next) k);
-  }
+    pub line_next : lines_at i bs ≡ tokens_at i (take (i + n) bs) ∷ lines_at (length (take (i + n) bs) + 1) bs
+    line_next =
+        let bytes : first_line (drop i bs) ≡ drop i (take (i + n) bs) = ap (λ k. take k (drop i bs)) (sym len_is) ∙ sym (drop-take i n bs) in
+        let after : i + length (first_line (drop i bs)) + 1 ≡ length (take (i + n) bs) + 1 = omega (arith, is, line_ends) in
+        line_here h ∙ (λ k. tokens_from false i (bytes k) ∷ (past_line ∙ ap (λ j. lines_at j bs) after) k)

@@ -1,58 +1,54 @@
--- One byte on: what the definitions of specs/Tokens.antt say at i and at i + 1.
-use Rattle.std.proofs.Common.{◌≡◌, ℕ, ◌+◌, ◌<◌, Bool, true, false, List, [], ◌∷◌, ◌++◌, length, get_or, drop, sym, refl, ap, ◌∙◌, ⊎_elim, append_assoc, append-nil, arith}
-use Rattle.std.specs.List.{between}
-use Rattle.std.proofs.lemmas.List.Edits.{between_none, between_more}
-use Rattle.std.proofs.lemmas.List.{at_drop_more, at_drop_all}
-use Rattle.std.proofs.lemmas.Bool.{cases_lt, cond-true, cond-false}
-use Rattle.text.specs.Finding.{Inside, Spans}
-use Rattle.text.specs.Tokens.{white, run, starts, tokens_from, tokens_at}
+-- A token and what stands around it, by the definitions of specs/Tokens.antt.
+use Rattle.std.proofs.Common.{◌≡◌, ℕ, ◌+◌, ◌<◌, Some, None, Bool, true, false, not, List, [], ◌∷◌, length, get_or, drop, sym, refl, ap, ◌∙◌, arith}
+use Rattle.std.specs.Char.{is_ascii_whitespace}
+use Rattle.std.specs.List.{position, position_or_len}
+use Rattle.std.proofs.lemmas.Bool.{cond-true, cond-false, not-true, not-false}
+use Rattle.std.proofs.lemmas.Grind.{common_steps}
+use Rattle.std.proofs.lemmas.List.{at_drop_more, drop_all, get_or-drop, length-drop}
+use Rattle.std.proofs.lemmas.List.Folds.{length-prefix_len}
+use Rattle.std.proofs.lemmas.List.Quantifiers.{position-Some}
+use Rattle.text.proofs.Cutting.{cut_at}
+use Rattle.text.specs.Tokens.{run, tokens_from, tokens_at}
+
+abbrev pub in_token : ℕ → Bool
+in_token b = not (is_ascii_whitespace b)
+
+-- a token starts at a byte that is not white space
+token_starts : (i b : ℕ) (l : List ℕ) → is_ascii_whitespace b ≡ false → tokens_from false i (b ∷ l) ≡ record { bytes = run (b ∷ l); offset = i } ∷ tokens_from true i (b ∷ l)
+token_starts i b l e = cond-false _ _ _ e ∙ ap (λ ws. record { bytes = run (b ∷ l); offset = i } ∷ ws) (sym (cond-false _ _ _ e))
 
 module _ (bs : List ℕ) (i : ℕ) where
-  pub tokens_past_white : (inside : Bool) → i < length bs → white (get_or bs i 0) ≡ true → tokens_from inside i (drop i bs) ≡ tokens_at (i + 1) bs
-  tokens_past_white inside h w = at_drop_more (tokens_from inside i) bs i 0 h ∙ cond-true _ _ _ w
+  -- white space holds no token
+  past_white : tokens_at i bs ≡ tokens_at (i + position_or_len in_token (drop i bs)) bs
+  past_white =
+      cut_at in_token (tokens_from false) (tokens_from false)
+      (λ i. refl) (λ i b l e. cond-true _ _ _ (not-false _ e)) (λ i b l e. refl) i bs
 
-  tokens_in_token : (inside : Bool) → i < length bs → white (get_or bs i 0) ≡ false → tokens_from inside i (drop i bs) ≡ starts inside i (drop i bs) ++ tokens_from true (i + 1) (drop (i + 1) bs)
-  tokens_in_token inside h w =
-      at_drop_more (tokens_from inside i) bs i 0 h ∙ cond-false _ _ _ w ∙ ap (λ ws. ws ++ tokens_from true (i + 1) (drop (i + 1) bs)) (sym (at_drop_more (starts inside i) bs i 0 h))
+  -- nor does the rest of a token hold another one
+  past_token : tokens_from true i (drop i bs) ≡ tokens_at (i + length (run (drop i bs))) bs
+  past_token =
+      cut_at is_ascii_whitespace (tokens_from true) (tokens_from false)
+      (λ i. refl) (λ i b l e. cond-false _ _ _ e) (λ i b l e. cond-true _ _ _ e ∙ sym (cond-true _ _ _ e)) i bs
+      ∙ ap (λ n. tokens_at (i + n) bs) (sym (length-prefix_len in_token (drop i bs)))
 
-  run_more : i < length bs → white (get_or bs i 0) ≡ false → run (drop i bs) ≡ get_or bs i 0 ∷ run (drop (i + 1) bs)
-  run_more h w = at_drop_more run bs i 0 h ∙ cond-false _ _ _ w
+  token_here : i < length bs → is_ascii_whitespace (get_or bs i 0) ≡ false → tokens_at i bs ≡ record { bytes = run (drop i bs); offset = i } ∷ tokens_from true i (drop i bs)
+  token_here h e =
+      at_drop_more (tokens_from false i) bs i 0 h
+      ∙ token_starts i (get_or bs i 0) (drop (i + 1) bs) e
+      ∙ sym (at_drop_more (λ l. record { bytes = run l; offset = i } ∷ tokens_from true i l) bs i 0 h)
 
-  -- where no token goes on at i
-  module _ (stops : i < length bs → white (get_or bs i 0) ≡ true) where
-    run_ends : run (drop i bs) ≡ []
-    run_ends = ⊎_elim (λ h. at_drop_more run bs i 0 h ∙ cond-true _ _ _ (stops h)) (at_drop_all run bs i) (cases_lt i (length bs))
+module _ (bs : List ℕ) (i : ℕ) where
+  pub no_token : position in_token (drop i bs) ≡ None → tokens_at i bs ≡ []
+  no_token none = past_white bs i ∙ ap (tokens_from false _) (drop_all _ bs (grind (arith, common_steps)))
 
-    tokens_end : tokens_from true i (drop i bs) ≡ tokens_at i bs
-    tokens_end =
-        ⊎_elim
-        (λ h. tokens_past_white true h (stops h) ∙ sym (tokens_past_white false h (stops h)))
-        (λ h. at_drop_all (tokens_from true i) bs i h ∙ sym (at_drop_all (tokens_from false i) bs i h))
-        (cases_lt i (length bs))
-
-pub inside_none : (bs : List ℕ) (from : ℕ) → Inside bs from from
-inside_none bs from = record {
-  forward = omega arith;
-  within = λ h. h;
-  front = ap (λ l. l ++ run (drop from bs)) (sym (between_none bs from));
-  rest = refl;
-}
-
-pub inside_more : (bs : List ℕ) (from i : ℕ) → i < length bs → white (get_or bs i 0) ≡ false → Inside bs from i → Inside bs from (i + 1)
-inside_more bs from i h w so = record {
-  forward = omega arith;
-  within = λ _. omega arith;
-  front = so.front ∙ ap (λ l. between from i bs ++ l) (run_more bs i h w) ∙ sym (append_assoc (between from i bs) (get_or bs i 0 ∷ []) _) ∙ ap (λ l. l ++ run (drop (i + 1) bs)) (sym (between_more bs from i 0 so.forward h));
-  rest = so.rest ∙ tokens_in_token bs i true h w;
-}
-
--- a token that starts at s, after white space alone, and stops at e
-pub spans : (bs : List ℕ) (from s e : ℕ) → tokens_at from bs ≡ tokens_at s bs → s < length bs → white (get_or bs s 0) ≡ false → Inside bs s e → (e < length bs → white (get_or bs e 0) ≡ true) → Spans bs from s e
-spans bs from s e same h w inside stops =
-    let bytes : run (drop s bs) ≡ between s e bs = inside.front ∙ ap (λ l. between s e bs ++ l) (run_ends bs e stops) ∙ append-nil _ in
-    let after : tokens_from true (s + 1) (drop (s + 1) bs) ≡ tokens_at e bs = sym (tokens_in_token bs s true h w) ∙ inside.rest ∙ tokens_end bs e stops in
-    record {
-      forward = inside.forward;
-      within = inside.within (omega arith);
-      tokens = same ∙ tokens_in_token bs s false h w ∙ (λ k. record { bytes = bytes k; offset = s } ∷ after k);
-    }
+  -- the first token starts n bytes on
+  pub token_next : (n : ℕ) (word : List ℕ) → position in_token (drop i bs) ≡ Some n → word ≡ run (drop (i + n) bs) → tokens_at i bs ≡ record { bytes = word; offset = i + n } ∷ tokens_at (i + n + length word) bs
+  token_next n word found is =
+      let at : position_or_len in_token (drop i bs) ≡ n = grind (arith, common_steps) in
+      let starts = position-Some in_token (drop i bs) n 0 found in
+      let other : is_ascii_whitespace (get_or bs (i + n) 0) ≡ false = ap is_ascii_whitespace (sym (get_or-drop i bs n 0)) ∙ not-true _ starts.1 in
+      past_white bs i
+      ∙ ap (λ k. tokens_at (i + k) bs) at
+      ∙ token_here bs (i + n) (omega (arith, length-drop i bs, starts.0)) other
+      ∙ ap (λ ws. record { bytes = run (drop (i + n) bs); offset = i + n } ∷ ws) (past_token bs (i + n))
+      ∙ ap (λ l. record { bytes = l; offset = i + n } ∷ tokens_at (i + n + length l) bs) (sym is)

@@ -1,6 +1,5 @@
 -- The definitions that the contracts of `text` cite.
-pub mod Finding
-pub mod LineEnds
+pub mod Cuts
 pub mod Lines
 pub mod Numbers
 pub mod Places

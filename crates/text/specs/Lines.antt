@@ -1,17 +1,16 @@
 -- The lines of a byte list: each ends before a line feed, byte 10, or at the end.
-use Rattle.std.specs.Prelude.{◌≡◌, ℕ, ◌+◌, Bool, false, cond, not, List, [], ◌∷◌, ◌++◌, drop, Some, None, Option, ◌==◌}
-use Rattle.text.specs.Tokens.{Word, tokens_from, to_come}
+use Rattle.std.specs.Prelude.{ℕ, ◌+◌, Bool, false, if◌then◌else◌, not, List, [], ◌∷◌, ◌++◌, drop, ◌==◌}
+use Rattle.std.specs.List.{before_first}
+use Rattle.text.specs.Tokens.{Word, tokens_from}
 use Rattle.text.specs.declared.lines.LineReader.{LineReader}
-use Rattle.text.specs.declared.tokens.Reader.{Reader}
 
 -- the bytes before the first line feed
 abbrev pub first_line : List ℕ → List ℕ
-first_line [] = []
-first_line (b ∷ bs) = cond (b == 10) [] (b ∷ first_line bs)
+first_line bs = before_first (λ b. b == 10) bs
 
 -- the tokens of the line that starts with bs at offset i; none if it goes on from before, `inside`
 abbrev pub starts_line : Bool → ℕ → List ℕ → List (List Word)
-starts_line inside i bs = cond inside [] (tokens_from false i (first_line bs) ∷ [])
+starts_line inside i bs = if inside then [] else tokens_from false i (first_line bs) ∷ []
 
 -- the tokens of each line that starts in bs, whose first byte has offset i; `inside` says that the byte before it is no line feed
 abbrev pub lines_from : Bool → ℕ → List ℕ → List (List Word)
@@ -29,8 +28,3 @@ lines_of bs = lines_from false 0 bs
 -- the lines that a reader has yet to give
 abbrev pub lines_to_come : LineReader → List (List Word)
 lines_to_come r = lines_at r.at r.text.now
-
--- what `line` gives: the first of the lines that were to come, or nothing where there were none
-abbrev pub TakesLine : List (List Word) → Option Reader → List (List Word) → Type 0
-TakesLine before None after = (before ≡ []) × (after ≡ [])
-TakesLine before (Some r) after = before ≡ to_come r ∷ after

@@ -1,5 +1,5 @@
 -- Decimal numbers.
-use Rattle.std.specs.Prelude.{ℕ, ◌+◌, ◌-◌, ◌*◌, Bool, cond, ◌&&◌, List, length, Ok, Err, fold, Result, nat_le, nat_lt}
+use Rattle.std.specs.Prelude.{ℕ, ◌+◌, ◌-◌, ◌*◌, Bool, if◌then◌else◌, ◌&&◌, List, length, Ok, Err, fold, Result, nat_le, nat_lt}
 use Rattle.std.specs.Str.{all_ascii_digits}
 use Rattle.text.specs.declared.faults.Problem.{Problem}
 use Rattle.text.specs.declared.faults.Problem.TheVariants.{NotANumber, TooLarge}
@@ -18,4 +18,7 @@ value_of bs = fold shifted 0 bs
 
 -- what bs give as a number of at most `most`
 abbrev pub reading : List ℕ → ℕ → Result ℕ Problem
-reading bs most = cond (is_number bs) (cond (nat_le (value_of bs) most) (Ok (value_of bs)) (Err (TooLarge most))) (Err NotANumber)
+reading bs most =
+    if is_number bs
+    then if nat_le (value_of bs) most then Ok (value_of bs) else Err (TooLarge most)
+    else Err NotANumber

@@ -1,10 +1,10 @@
 -- Lines and columns, both counted from 1.
-use Rattle.std.specs.Prelude.{ℕ, ◌+◌, not, List, take, count_by, ◌==◌, nat_eq}
+use Rattle.std.specs.Prelude.{ℕ, ◌+◌, not, List, take, count_by, ◌==◌}
 use Rattle.std.specs.List.{suffix_len}
 
 -- how many line feeds, byte 10, there are
 abbrev pub feeds : List ℕ → ℕ
-feeds bs = count_by (λ b. nat_eq b 10) bs
+feeds bs = count_by (λ b. b == 10) bs
 
 -- how many bytes follow the last line feed, or all where there is none: the longest end with no line feed
 abbrev pub since : List ℕ → ℕ

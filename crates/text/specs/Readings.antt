@@ -1,5 +1,5 @@
 -- Tokens as numbers.
-use Rattle.std.specs.Prelude.{◌≡◌, ℕ, List, [], ◌∷◌, ◌++◌, Ok, Err, vec_items, Result, Vec}
+use Rattle.std.specs.Prelude.{◌≡◌, ℕ, List, [], ◌∷◌, ◌++◌, Ok, Err, vec_items, Result, Vec, ⊤}
 use Rattle.std.specs.declared.alloc.Global.{Global}
 use Rattle.text.specs.declared.faults.Fault.{Fault}
 use Rattle.text.specs.declared.faults.Problem.{Problem}
@@ -36,4 +36,4 @@ numbers_of most (w ∷ ws) = first (reading_of w most) (numbers_of most ws)
 abbrev pub Gives : Result (List ℕ) Fault → Result (Vec ℕ Global) WordsError → Type 0
 Gives all (Ok v) = all ≡ Ok (vec_items v)
 Gives all (Err (Bad f)) = all ≡ Err f
-Gives all (Err Memory) = Unit {0}
+Gives all (Err Memory) = ⊤

@@ -1,17 +1,13 @@
 -- White space, and the tokens of a byte list.
-use Rattle.std.specs.Prelude.{◌≡◌, ℕ, ◌+◌, Bool, true, false, cond, ◌||◌, List, [], ◌∷◌, ◌++◌, drop, Some, None, Option}
-use Rattle.std.specs.Int.{is_in_range}
+use Rattle.std.specs.Prelude.{ℕ, ◌+◌, Bool, true, false, if◌then◌else◌, List, [], ◌∷◌, ◌++◌, drop}
+use Rattle.std.specs.Char.{is_ascii_whitespace}
+use Rattle.std.specs.List.{before_first}
 use Rattle.text.specs.declared.tokens.Reader.{Reader}
 use Rattle.text.specs.declared.tokens.Token.{Token}
 
--- white space: tab 9, line feed 10, form feed 12, carriage return 13 and space 32
-abbrev pub white : ℕ → Bool
-white b = (is_in_range 9 10 b || is_in_range 12 13 b) || is_in_range 32 32 b
-
--- the bytes before the first white space
+-- the bytes before the first white space: tab 9, line feed 10, form feed 12, carriage return 13 or space 32
 abbrev pub run : List ℕ → List ℕ
-run [] = []
-run (b ∷ bs) = cond (white b) [] (b ∷ run bs)
+run bs = before_first is_ascii_whitespace bs
 
 -- a token's bytes, and the offset of the first of them
 pub record Word : Type 0 where
@@ -20,12 +16,12 @@ pub record Word : Type 0 where
 
 -- the token that starts with bs at offset i; none if it goes on from before, `inside`
 abbrev pub starts : Bool → ℕ → List ℕ → List Word
-starts inside i bs = cond inside [] (record { bytes = run bs; offset = i } ∷ [])
+starts inside i bs = if inside then [] else record { bytes = run bs; offset = i } ∷ []
 
 -- the tokens that start in bs, whose first byte has offset i; `inside` says that the byte before it is part of a token
 abbrev pub tokens_from : Bool → ℕ → List ℕ → List Word
 tokens_from inside i [] = []
-tokens_from inside i (b ∷ bs) = cond (white b) (tokens_from false (i + 1) bs) (starts inside i (b ∷ bs) ++ tokens_from true (i + 1) bs)
+tokens_from inside i (b ∷ bs) = if is_ascii_whitespace b then tokens_from false (i + 1) bs else starts inside i (b ∷ bs) ++ tokens_from true (i + 1) bs
 
 -- the tokens of bs from offset i on
 abbrev pub tokens_at : ℕ → List ℕ → List Word
@@ -42,8 +38,3 @@ to_come r = tokens_at r.at r.text.now
 -- a token of the code
 abbrev pub word : Token → Word
 word t = record { bytes = t.text.now; offset = t.at }
-
--- what `token` gives: the first of the tokens that were to come, or nothing where there were none
-abbrev pub Takes : List Word → Option Token → List Word → Type 0
-Takes before None after = (before ≡ []) × (after ≡ [])
-Takes before (Some t) after = before ≡ word t ∷ after

@@ -22,7 +22,7 @@ impl fmt::Display for Problem {
     ghost output = { λ p. Some (problem_text p) };
 
     fn fmt<W: fmt::Write>(&self, f: &mut fmt::Formatter<W>) -> fmt::Result {
-        match *self {
+        match self {
             Problem::NotANumber => write!(f, "not a decimal number"),
             Problem::TooLarge { most } => write!(f, "larger than {most}"),
         }

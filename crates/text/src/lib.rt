@@ -1,6 +1,7 @@
 // Decimal words out of text and into it: lines, tokens, numbers, and the line and column of what is wrong.
 #![tactic(auto)]
 
+mod cuts;
 pub mod faults;
 pub mod lines;
 pub mod lists;

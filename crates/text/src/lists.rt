@@ -31,21 +31,14 @@ impl<T: Drop> From<AllocFailed<T>> for WordsError {
     }
 }
 
-// The tokens still to come, as numbers of at most `most`.
-fn up_to(most: u16, mut reader: Reader, heap: Global) -> Result<Vec<u16>, WordsError>
-    ensures { Gives (numbers_of most (to_come reader.entry)) result }
-{
-    let mut all = Vec::new(heap);
-    while let Some(token) = reader.token() {
-        let n = token.read(u64::from(most))?;
-        all.push(n as u16)?;
-    }
-    Ok(all)
-}
-
 // The tokens still to come, as numbers of 16 bits.
 pub fn words(reader: Reader, heap: Global) -> Result<Vec<u16>, WordsError>
     ensures { Gives (numbers_of 65535 (to_come reader.entry)) result }
 {
-    up_to(u16::MAX, reader, heap)
+    let mut all = Vec::new(heap);
+    for token in reader {
+        let number = token.read(u64::from(u16::MAX))?;
+        all.push(number as u16)?;
+    }
+    Ok(all)
 }

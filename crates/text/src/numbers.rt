@@ -1,5 +1,5 @@
 // Tokens as decimal numbers.
-ghost use Rattle.std.specs.Prelude.{◌≡◌, ◌+◌, min, true, false, MatchOption};
+ghost use Rattle.std.specs.Prelude.{◌≡◌, ◌-◌, ◌^◌, min, true, false, MatchOption};
 ghost use Rattle.text.specs.Numbers.{is_number, value_of, reading};
 ghost use Rattle.text.specs.Readings.{reading_of};
 ghost use Rattle.text.specs.Tokens.{word};
@@ -7,20 +7,18 @@ ghost use Rattle.text.specs.Tokens.{word};
 use crate::faults::{Fault, Problem};
 use crate::tokens::Token;
 
-// The number that `text` writes, cut off right above `most`; `None` where it writes none.
-fn decimal(text: &[u8], most: u64) -> Option<u128>
-    ensures { MatchOption result (is_number text.now ≡ false) (λ v. (is_number text.now ≡ true) × (v ≡ min (value_of text.now) (most + 1))) }
+// The number that `text` writes, or the largest of 128 bits where it is larger; `None` where it writes none.
+fn decimal(text: &[u8]) -> Option<u128>
+    ensures { MatchOption result (is_number text.now ≡ false)
+        (λ v. (is_number text.now ≡ true) × (v ≡ min (value_of text.now) (2 ^ 128 - 1))) }
 {
     if text.is_empty() {
         return None;
     }
-    let cut = u128::from(most) + 1;
     let mut value: u128 = 0;
     for b in text {
-        if !b.is_ascii_digit() {
-            return None;
-        }
-        value = (10 * value + u128::from(*b - b'0')).min(cut);
+        let digit = char::from(*b).to_digit(10)?;
+        value = value.saturating_mul(10).saturating_add(u128::from(digit));
     }
     Some(value)
 }
@@ -30,7 +28,7 @@ impl Token<'_> {
     pub fn number(&self, most: u64) -> Result<u64, Problem>
         ensures { result ≡ reading self.now.text.now most }
     {
-        match decimal(self.text, most) {
+        match decimal(self.text) {
             None => Err(Problem::NotANumber),
             Some(value) if value <= u128::from(most) => Ok(value as u64),
             Some(_) => Err(Problem::TooLarge { most }),
@@ -38,15 +36,11 @@ impl Token<'_> {
     }
 
     // The same, with the token's offset where it writes no such number.
+    #[tactic(auto, using(crate::proofs::Placing::placed_is))]
     pub fn read(&self, most: u64) -> Result<u64, Fault>
         ensures { result ≡ reading_of (word self.now) most }
     {
-        match self.number(most) {
-            Ok(n) => Ok(n),
-            Err(problem) => Err(Fault {
-                at: self.at,
-                problem,
-            }),
-        }
+        let at = self.at;
+        self.number(most).map_err(|problem| Fault { at, problem })
     }
 }

@@ -1,5 +1,5 @@
 // Lines and columns.
-ghost use Rattle.std.specs.Prelude.{◌≡◌, ◌-◌, ◌^◌, min, take, Some};
+ghost use Rattle.std.specs.Prelude.{◌≡◌, ◌-◌, ◌^◌, min, Some};
 ghost use Rattle.text.specs.Places.{feeds, since, line_of, column_of};
 ghost use Rattle.text.specs.Shown.{place_text};
 
@@ -12,22 +12,18 @@ pub struct Place {
     pub column: usize,
 }
 
-// How many line feeds stand before offset `at`, and how many bytes after the last of them.
-fn counts(text: &[u8], at: usize) -> (usize, usize)
-    ensures lines { result.0 ≡ feeds (take at text.now) }
-    ensures bytes { result.1 ≡ since (take at text.now) }
+// How many line feeds there are.
+fn feeds(text: &[u8]) -> usize
+    ensures { result ≡ feeds text.now }
 {
-    let mut lines: usize = 0;
-    let mut bytes: usize = 0;
-    for i in 0..at.min(text.len()) {
-        if text[i] == b'\n' {
-            lines += 1;
-            bytes = 0;
-        } else {
-            bytes += 1;
-        }
-    }
-    (lines, bytes)
+    text.iter().filter(|b| **b == b'\n').count()
+}
+
+// How many bytes follow the last line feed, or all where there is none.
+fn since(text: &[u8]) -> usize
+    ensures { result ≡ since text.now }
+{
+    text.iter().rev().take_while(|b| **b != b'\n').count()
 }
 
 impl Place {
@@ -36,10 +32,10 @@ impl Place {
         ensures line { result.line ≡ min (line_of text.now at) (2 ^ 64 - 1) }
         ensures column { result.column ≡ min (column_of text.now at) (2 ^ 64 - 1) }
     {
-        let (lines, bytes) = counts(text, at);
+        let before = &text[..at.min(text.len())];
         Place {
-            line: lines.saturating_add(1),
-            column: bytes.saturating_add(1),
+            line: feeds(before).saturating_add(1),
+            column: since(before).saturating_add(1),
         }
     }
 }
@@ -48,8 +44,7 @@ impl fmt::Display for Place {
     ghost output = { λ p. Some (place_text p) };
 
     fn fmt<W: fmt::Write>(&self, f: &mut fmt::Formatter<W>) -> fmt::Result {
-        let line = self.line;
-        let column = self.column;
+        let Place { line, column } = self;
         write!(f, "line {line}, column {column}")
     }
 }

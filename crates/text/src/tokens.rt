@@ -1,7 +1,9 @@
 // Tokens: the longest runs of bytes that are not white space.
-ghost use Rattle.std.specs.Prelude.{◌≡◌, ◌<◌, true, false, length, slice_index};
-ghost use Rattle.text.specs.Finding.{Inside, Finds};
-ghost use Rattle.text.specs.Tokens.{white, tokens_at, tokens_of, to_come, Takes};
+ghost use Rattle.std.specs.Prelude.{◌≡◌, ◌+◌, ◌≤◌, [], ◌∷◌, length, IfSome, MatchOption};
+ghost use Rattle.std.specs.Iterator.{YieldsFirstBy, item_count};
+ghost use Rattle.text.specs.Tokens.{tokens_at, tokens_of, to_come, word};
+
+use crate::cuts::before;
 
 // A token's bytes, and the offset of the first of them in the whole input.
 #[derive(Clone, Copy, PartialEq, Eq, Debug)]
@@ -17,41 +19,6 @@ pub struct Reader<'a> {
     pub at: usize,
 }
 
-// The offset of the first byte from `from` on that is not white space, or the end.
-fn past_white(text: &[u8], from: usize) -> usize
-    ensures same { tokens_at from text.now ≡ tokens_at result text.now }
-    ensures stops { result < length text.now → white (slice_index text.now result) ≡ false }
-{
-    let mut i = from;
-    while i < text.len() && text[i].is_ascii_whitespace() {
-        i += 1;
-    }
-    i
-}
-
-// The offset of the first white space from `from` on, or the end.
-fn token_end(text: &[u8], from: usize) -> usize
-    ensures inside { Inside text.now from result }
-    ensures stops { result < length text.now → white (slice_index text.now result) ≡ true }
-{
-    let mut i = from;
-    while i < text.len() && !text[i].is_ascii_whitespace() {
-        i += 1;
-    }
-    i
-}
-
-// Where the first token from `from` on starts, and where it ends.
-fn find(text: &[u8], from: usize) -> Option<(usize, usize)>
-    ensures { Finds text.now from result }
-{
-    let start = past_white(text, from);
-    if start >= text.len() {
-        return None;
-    }
-    Some((start, token_end(text, start)))
-}
-
 impl<'a> Reader<'a> {
     // Starts at the first byte.
     pub fn new(text: &'a [u8]) -> Reader<'a>
@@ -63,15 +30,36 @@ impl<'a> Reader<'a> {
 
     // The next token, or `None` at the end.
     pub fn token(&mut self) -> Option<Token<'a>>
-        ensures takes { Takes (to_come self.old) result (to_come self.new) }
+        ensures takes { YieldsFirstBy word to_come self.old result self.new }
         ensures text { self.new.text.now ≡ self.old.text.now }
     {
-        let text = self.text;
-        let (start, end) = find(text, self.at)?;
-        self.at = end;
-        Some(Token {
-            text: &text[start..end],
-            at: start,
-        })
+        let token = self.peek()?;
+        self.at = token.at + token.text.len();
+        Some(token)
+    }
+
+    // The same, and the token is still to come.
+    fn peek(&self) -> Option<Token<'a>>
+        ensures first { MatchOption result (to_come self.now ≡ [])
+            (λ t. to_come self.now ≡ word t ∷ tokens_at (t.at + length t.text.now) self.now.text.now) }
+        ensures within { IfSome result (λ t. t.at + length t.text.now ≤ length self.now.text.now) }
+    {
+        let ahead = self.text.get(self.at..)?;
+        let at = self.at + ahead.iter().position(|b| !b.is_ascii_whitespace())?;
+        let text = before(&self.text[at..], |b| b.is_ascii_whitespace());
+        Some(Token { text, at })
+    }
+}
+
+impl<'a> Iterator for Reader<'a> {
+    type Item = Token<'a>;
+
+    ghost next_gives = { YieldsFirstBy word to_come };
+
+    ghost remaining = { item_count to_come };
+
+    // `token` says besides that the text stays.
+    fn next(&mut self) -> Option<Token<'a>> {
+        self.token()
     }
 }

@@ -2,37 +2,24 @@
 ghost use Rattle.std.specs.Prelude.{◌≡◌, ℕ, List, ◌∷◌, ◌++◌, Some, string_bytes, OnOk};
 ghost use Rattle.text.specs.Shown.{spaced};
 
-use std::alloc::{AllocError, Global};
+use std::alloc::AllocError;
 use std::fmt::Display;
 
 // Appends one number behind a space.
-pub fn push_number<T: Display>(
-    heap: Global,
-    text: &mut String,
-    number: &T,
-) -> Result<(), AllocError>
-    ensures { OnOk result ((digits : List ℕ) → T.Display.output number.now ≡ Some digits → string_bytes text.new ≡ string_bytes text.old ++ (32 ∷ digits)) }
+pub fn push_number<T: Display>(text: &mut String, number: &T) -> Result<(), AllocError>
+    ensures { OnOk result ((digits : List ℕ) → T.Display.output number.now ≡ Some digits
+        → string_bytes text.new ≡ string_bytes text.old ++ (32 ∷ digits)) }
 {
-    let word = format!(in heap; " {number}")?;
-    text.push_str(word.as_str())
+    write!(text, " {number}")
 }
 
 // Appends the numbers, each behind a space.
-pub fn push_numbers<T: Display>(
-    heap: Global,
-    text: &mut String,
-    numbers: &[T],
-) -> Result<(), AllocError>
-    ensures { OnOk result ((digits : T → List ℕ) → ((x : T) → T.Display.output x ≡ Some (digits x)) → string_bytes text.new ≡ string_bytes text.old ++ spaced digits numbers.now) }
-{
-    push_each(heap, text, numbers)
-}
-
-fn push_each<T: Display>(heap: Global, text: &mut String, numbers: &[T]) -> Result<(), AllocError>
-    ensures { OnOk result ((digits : T → List ℕ) → ((x : T) → T.Display.output x ≡ Some (digits x)) → string_bytes text.new ≡ string_bytes text.old ++ spaced digits numbers.now) }
+pub fn push_numbers<T: Display>(text: &mut String, numbers: &[T]) -> Result<(), AllocError>
+    ensures { OnOk result ((digits : T → List ℕ) → ((x : T) → T.Display.output x ≡ Some (digits x))
+        → string_bytes text.new ≡ string_bytes text.old ++ spaced digits numbers.now) }
 {
     for number in numbers {
-        push_number(heap, text, number)?;
+        push_number(text, number)?;
     }
     Ok(())
 }

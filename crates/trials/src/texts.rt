@@ -1,6 +1,7 @@
 // Tokens and numbers: odd bytes, bounds, long numbers, places.
 use std::test::Fail;
 use text::faults::{Fault, Problem};
+use text::lines::LineReader;
 use text::lists::{WordsError, words};
 use text::places::Place;
 use text::tokens::{Reader, Token};
@@ -58,6 +59,17 @@ fn reads_long_numbers(rt: HostRuntime) {
         Token { text: b"", at: 0 }.number(9),
         Err(Problem::NotANumber)
     );
+}
+
+#[test]
+fn gives_lines_and_tokens(rt: HostRuntime) {
+    let mut starts = [9; 3];
+    for (start, line) in starts.iter_mut().zip(LineReader::new(b"a b\n\n c")) {
+        for token in line {
+            *start = token.at;
+        }
+    }
+    assert_eq!(rt; starts, [2, 9, 6]);
 }
 
 #[test]

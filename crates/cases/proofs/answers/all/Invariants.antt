@@ -1,11 +1,8 @@
 -- What comes of the lines that are left, behind the text so far, comes of all.
-use Rattle.std.proofs.Common.{length, string_bytes}
+use Rattle.std.proofs.Common.{string_bytes}
 use Rattle.text.specs.Lines.{lines_to_come}
 use Rattle.cases.proofs.Running.{Run}
 use Rattle.cases.proofs.answers.all.Given as goal
 
 abbrev pub invariant-loop-line : goal.invariant-loop-line
-invariant-loop-line l = Run (lines_to_come l.initial.lines) (string_bytes l.text) (lines_to_come l.lines)
-
-abbrev pub decreases-loop-line : goal.decreases-loop-line
-decreases-loop-line l = length (lines_to_come l.lines)
+invariant-loop-line l = Run (lines_to_come l.fn.lines) (string_bytes l.text) (lines_to_come l.line-iterator)

@@ -1,7 +1,7 @@
 -- The numbers so far.
 use Rattle.std.proofs.Common.{◌≡◌, ℕ, List, ◌++◌, take, Some, string_bytes}
 use Rattle.text.specs.Shown.{spaced}
-use Rattle.text.proofs.writing.push_each.Given as goal
+use Rattle.text.proofs.writing.push_numbers.Given as goal
 
 abbrev pub invariant-loop-number : goal.invariant-loop-number
 invariant-loop-number g l =
