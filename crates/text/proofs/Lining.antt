@@ -17,6 +17,7 @@ module _ (bs : List ℕ) (i : ℕ) where
       ∙ ap (lines_from false _) (drop-drop 1 _ bs)
       ∙ ap (λ n. lines_at (i + n + 1) bs) (sym (length-prefix_len (λ b. not (b == 10)) (drop i bs)))
 
+  -- a line starts at i
   line_here : i < length bs → lines_at i bs ≡ tokens_from false i (first_line (drop i bs)) ∷ lines_from true i (drop i bs)
   line_here h =
       at_drop_more (lines_from false i) bs i 0 h
@@ -27,7 +28,7 @@ module _ (bs : List ℕ) (i : ℕ) where
     len_is : n ≡ position_or_len (λ b. b == 10) (drop i bs)
     len_is = is ∙ length-prefix_len (λ b. not (b == 10)) (drop i bs)
 
-    pub line_ends : length (take (i + n) bs) ≡ i + n
+    line_ends : length (take (i + n) bs) ≡ i + n
     line_ends = omega (arith, length-take (i + n) bs, length-drop i bs, prefix_len-le-length (λ b. not (b == 10)) (drop i bs), len_is)
 
     pub line_next : lines_at i bs ≡ tokens_at i (take (i + n) bs) ∷ lines_at (length (take (i + n) bs) + 1) bs

@@ -10,6 +10,7 @@ use Rattle.std.proofs.lemmas.List.Quantifiers.{position-Some}
 use Rattle.text.proofs.Cutting.{cut_at}
 use Rattle.text.specs.Tokens.{run, tokens_from, tokens_at}
 
+-- a byte of a token
 abbrev pub in_token : ℕ → Bool
 in_token b = not (is_ascii_whitespace b)
 
@@ -31,6 +32,7 @@ module _ (bs : List ℕ) (i : ℕ) where
       (λ i. refl) (λ i b l e. cond-false _ _ _ e) (λ i b l e. cond-true _ _ _ e ∙ sym (cond-true _ _ _ e)) i bs
       ∙ ap (λ n. tokens_at (i + n) bs) (sym (length-prefix_len in_token (drop i bs)))
 
+  -- a token starts at i where that byte is part of one
   token_here : i < length bs → is_ascii_whitespace (get_or bs i 0) ≡ false → tokens_at i bs ≡ record { bytes = run (drop i bs); offset = i } ∷ tokens_from true i (drop i bs)
   token_here h e =
       at_drop_more (tokens_from false i) bs i 0 h
@@ -38,6 +40,7 @@ module _ (bs : List ℕ) (i : ℕ) where
       ∙ sym (at_drop_more (λ l. record { bytes = run l; offset = i } ∷ tokens_from true i l) bs i 0 h)
 
 module _ (bs : List ℕ) (i : ℕ) where
+  -- where no byte of a token is left, no token is
   pub no_token : position in_token (drop i bs) ≡ None → tokens_at i bs ≡ []
   no_token none = past_white bs i ∙ ap (tokens_from false _) (drop_all _ bs (grind (arith, common_steps)))
 
