@@ -51,4 +51,4 @@ Coefficients a b r = (k : ℕ) → k ≤ length a + length b → at r k ≡ conv
 
 -- from the coefficients of a product modulo 2^16: that of X^i and of X^(n+1+i), less that of X^n, before it is taken modulo m
 abbrev pub folded_at : ℕ → ℕ → List ℕ → ℕ → ℕ
-folded_at n m xs i = ((at xs i + at xs (i + n + 1)) % 65536) % modulus m + (modulus m - at xs n % modulus m)
+folded_at n m xs i = (at xs i + at xs (i + n + 1)) % 65536 + (modulus m - at xs n % modulus m)
