@@ -25,9 +25,7 @@ impl<const N: usize, const M: u16> Poly<N, M> {
                 |i| -> u16
                     requires { F.pre f i }
                     ensures { (c : ℕ) × F.post f i c × (result ≡ c % modulus M) }
-                {
-                    (f(i) % Self::modulus()) as u16
-                },
+                { (f(i) % Self::modulus()) as u16 },
             ),
         }
     }

@@ -1,6 +1,6 @@
 // Polynomials as a kind.
-ghost use Rattle.poly.specs.Elements.{ops as poly-ops, coding as poly-coding};
-ghost use Rattle.poly.specs.Laws.{laws as poly-laws, codes as poly-codes};
+ghost use Rattle.poly.specs.Elements.{ops as poly_ops, coding as poly_coding};
+ghost use Rattle.poly.specs.Laws.{laws as poly_laws, codes as poly_codes};
 
 use super::Poly;
 use crate::served::{Served, Size};
@@ -8,13 +8,13 @@ use kinds::words::word_at;
 use kinds::{Kind, Ring};
 
 impl<const N: usize, const M: u16> Kind for Poly<N, M> {
-    ghost ops = { poly-ops N M };
+    ghost ops = { poly_ops N M };
 
-    ghost laws = { poly-laws N M };
+    ghost laws = { poly_laws N M };
 
-    ghost coding = { poly-coding N M };
+    ghost coding = { poly_coding N M };
 
-    ghost codes = { poly-codes N M };
+    ghost codes = { poly_codes N M };
 
     const WORDS: usize = N;
 
@@ -23,7 +23,7 @@ impl<const N: usize, const M: u16> Kind for Poly<N, M> {
     }
 
     fn limit() -> u32 {
-        u32::from(M.max(1))
+        Self::modulus()
     }
 
     fn zero() -> Self {
