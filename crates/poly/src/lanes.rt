@@ -23,14 +23,11 @@ fn rows(c: &[u16; 8], b: &[u16], k: usize) -> u16
     requires { k + 8 < length b.now }
     ensures { result ≡ rows_at 8 (at c.now) (at b.now) k % 65536 }
 {
-    c[0].wrapping_mul(b[k + 8])
-        .wrapping_add(c[1].wrapping_mul(b[k + 7]))
-        .wrapping_add(c[2].wrapping_mul(b[k + 6]))
-        .wrapping_add(c[3].wrapping_mul(b[k + 5]))
-        .wrapping_add(c[4].wrapping_mul(b[k + 4]))
-        .wrapping_add(c[5].wrapping_mul(b[k + 3]))
-        .wrapping_add(c[6].wrapping_mul(b[k + 2]))
-        .wrapping_add(c[7].wrapping_mul(b[k + 1]))
+    let mut sum = 0u16;
+    for j in 0..8 {
+        sum = sum.wrapping_add(c[j].wrapping_mul(b[k + 8 - j]));
+    }
+    sum
 }
 
 // Puts f(k, x) in place of each x, where k is its place.
