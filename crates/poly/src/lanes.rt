@@ -24,8 +24,8 @@ fn rows(c: &[u16; 8], b: &[u16], k: usize) -> u16
     ensures { result ≡ rows_at 8 (at c.now) (at b.now) k % 65536 }
 {
     let mut sum = 0u16;
-    for j in 0..8 {
-        sum = sum.wrapping_add(c[j].wrapping_mul(b[k + 8 - j]));
+    for (j, x) in c.iter().enumerate() {
+        sum = sum.wrapping_add(x.wrapping_mul(b[k + 8 - j]));
     }
     sum
 }

@@ -1,5 +1,5 @@
 -- The products so far and those to come make up the rows.
-use Rattle.std.proofs.Common.{◌≡◌, ℕ, ◌+◌, ◌-◌, ◌%◌}
+use Rattle.std.proofs.Common.{◌≡◌, ◌+◌, ◌-◌, ◌%◌}
 use Rattle.poly.specs.Lanes.{rows_at}
 use Rattle.poly.specs.Lists.{at}
 use Rattle.poly.proofs.lanes.rows.Given as goal
