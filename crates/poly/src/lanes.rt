@@ -46,9 +46,7 @@ fn add_rows(c: &[u16; 8], b: &[u16], sums: &mut [u16])
     requires { length sums.old + 8 ≤ length b.now }
     ensures { Holds (λ k. at sums.old k + rows_at 8 (at c.now) (at b.now) k) sums.new }
 {
-    // A copy of its own stays in registers.
-    let c = *c;
-    put_each(sums, |k, x| x.wrapping_add(rows(&c, b, k)));
+    put_each(sums, |k, x| x.wrapping_add(rows(c, b, k)));
 }
 
 // b behind eight zeros and before more of them.
@@ -123,13 +121,12 @@ fn multiply(a: &[u16], b: &[u16], p: &mut [u16], work: &mut [u16])
 }
 
 // Writes the coefficients of the product of a and b. Both are widened with zeros, so that they halve well.
-pub(crate) fn put_product(a: &[u16], b: &[u16], p: &mut [u16])
-    requires alike { length a.now ≡ length b.now }
-    requires most { length b.now < 832 }
+pub(crate) fn put_product<const N: usize>(a: &[u16; N], b: &[u16; N], p: &mut [u16])
+    requires most { N < 832 }
     requires room { length p.old ≡ 1664 }
     ensures { Coefficients a.now b.now p.new }
 {
-    let n = b.len() / 64 * 64 + 64;
+    let n = N / 64 * 64 + 64;
     let a = padded(a);
     let b = padded(b);
     let mut work = [0; WORK];
