@@ -3,7 +3,7 @@ ghost use Rattle.poly.specs.Elements.{ops as poly_ops, coding as poly_coding};
 ghost use Rattle.poly.specs.Laws.{laws as poly_laws, codes as poly_codes};
 
 use super::Poly;
-use crate::served::{Served, Size};
+use crate::served::Served;
 use kinds::words::word_at;
 use kinds::{Kind, Ring};
 
@@ -49,7 +49,7 @@ impl<const N: usize, const M: u16> Kind for Poly<N, M> {
 
 impl<const N: usize, const M: u16> Ring for Poly<N, M>
 where
-    Size<N, M>: Served<N, M>,
+    Self: Served<N, M>,
 {
     fn one() -> Self {
         Self::reduced(&[1])

@@ -7,11 +7,11 @@ ghost use Rattle.poly.specs.Quotient.{Quotient};
 
 use super::Poly;
 use crate::lanes::{PRODUCT, put_product};
-use crate::served::{Served, Size};
+use crate::served::Served;
 
 impl<const N: usize, const M: u16> Poly<N, M>
 where
-    Size<N, M>: Served<N, M>,
+    Self: Served<N, M>,
 {
     // The product of two elements: that of the polynomials, exponents reduced modulo N + 1, then the coefficient of X^N
     // subtracted from every other. So elements are the polynomials modulo 1 + X + ... + X^N and M.
