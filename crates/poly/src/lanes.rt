@@ -1,4 +1,5 @@
-// Products of polynomials whose coefficients are numbers of 16 bits, modulo 2^16: by halves, and at the end by rows.
+// Products of polynomials whose coefficients are numbers of 16 bits, modulo 2^16: by halves, and at the end by rows. They
+// allocate nothing: all room is in arrays of fixed length.
 ghost use Rattle.std.specs.Prelude.{◌≡◌, ℕ, ◌+◌, ◌*◌, ◌%◌, ◌<◌, ◌≤◌, length};
 ghost use Rattle.poly.specs.Lanes.{conv, rows_at, Padded, Factors, Holds, Joined, Coefficients};
 ghost use Rattle.poly.specs.Lists.{at};
@@ -52,8 +53,7 @@ fn add_rows(c: &[u16; 8], b: &[u16], sums: &mut [u16])
 // b behind eight zeros and before more of them.
 fn padded(b: &[u16]) -> [u16; PADDED]
     requires { length b.now ≤ 832 }
-    ensures length { length result ≡ 848 }
-    ensures places { Padded b.now result }
+    ensures { Padded b.now result }
 {
     let mut padded = [0; PADDED];
     padded[8..8 + b.len()].copy_from_slice(b);

@@ -22,7 +22,7 @@ loop-k-preserved c =
     (left_more (at a) (at b) n (8 * k) w p chunk c.padded-padded.result c.add_rows.new.sums
     (λ j h. get_or_past b j 0 h) (omega arith) (omega (arith, long, below, c.requires.eights, c.requires.alike)) part
     (λ j h. ap (λ xs. at (get_or xs k []) j) c.as_chunks.ensures.front ∙ chunk_at (length a / 8) k j a below h)
-    c.padded-padded.ensures.places c.add_rows.ensures c.loop-k.invariant)
+    c.padded-padded.ensures c.add_rows.ensures c.loop-k.invariant)
 
 pub returns : goal.returns
 returns c k h = left_all (at c.args.a.now) (at c.args.b.now) (8 * c.loop-k.k) c.loop-k.p

@@ -18,5 +18,5 @@ returns g c k h =
     ∙ ap (λ v. v % 65536) (get_or_append_left p _ 0 k (omega (arith, c.requires, long-a, long-b, long)))
     ∙ c.multiply.ensures k (omega (arith, c.requires, long-a, long-b, long))
     ∙ ap₂ (λ f d. conv f d k % 65536)
-    (λ t i. widened w n c.args.a.now c.padded-a.result (omega arith) (omega (arith, long-a)) c.padded-a.ensures.places i t)
-    (λ t i. widened w n c.args.b.now c.padded-b.result (omega arith) (omega (arith, long-b)) c.padded-b.ensures.places i t)
+    (λ t i. widened w n c.args.a.now c.padded-a.result (omega arith) (omega (arith, long-a)) c.padded-a.ensures i t)
+    (λ t i. widened w n c.args.b.now c.padded-b.result (omega arith) (omega (arith, long-b)) c.padded-b.ensures i t)
