@@ -1,11 +1,12 @@
 // Elements made coefficient by coefficient.
 ghost use Rattle.std.specs.Prelude.{◌≡◌, ℕ, ◌%◌, ◌<◌};
-ghost use Rattle.poly.specs.Elements.{poly, sum_at, difference_at, word_at};
+ghost use Rattle.poly.specs.Elements.{poly, sum_at, difference_at};
+ghost use Rattle.poly.specs.Lists.{at};
 ghost use Rattle.poly.specs.Modulus.{modulus};
 
 use super::Poly;
 use kinds::words::word_at;
-use std::array::from_fn;
+use std::array;
 
 impl<const N: usize, const M: u16> Poly<N, M> {
     // The modulus of the coefficients.
@@ -16,12 +17,12 @@ impl<const N: usize, const M: u16> Poly<N, M> {
     }
 
     // The element whose coefficient of X^i is f(i), taken modulo M.
-    pub(super) fn made<F: Fn(usize) -> u32>(f: F) -> Self
+    pub(super) fn from_fn<F: Fn(usize) -> u32>(f: F) -> Self
         requires { (i : ℕ) → i < N → F.pre f i }
         ensures { (d : ℕ → ℕ) → ((i c : ℕ) → i < N → F.post f i c → c ≡ d i) → result ≡ poly N M d }
     {
         Poly {
-            coeffs: from_fn(
+            coeffs: array::from_fn(
                 |i| -> u16
                     requires { F.pre f i }
                     ensures { (c : ℕ) × F.post f i c × (result ≡ c % modulus M) }
@@ -34,7 +35,7 @@ impl<const N: usize, const M: u16> Poly<N, M> {
         ensures { result ≡ poly N M (sum_at self.now other.now) }
     {
         let (x, y) = (self.coeffs.as_slice(), other.coeffs.as_slice());
-        Self::made(|i| u32::from(x[i]) + u32::from(y[i]))
+        Self::from_fn(|i| u32::from(x[i]) + u32::from(y[i]))
     }
 
     pub(super) fn difference(&self, other: &Self) -> Self
@@ -42,13 +43,13 @@ impl<const N: usize, const M: u16> Poly<N, M> {
     {
         let m = Self::modulus();
         let (x, y) = (self.coeffs.as_slice(), other.coeffs.as_slice());
-        Self::made(|i| u32::from(x[i]) + (m - u32::from(y[i])))
+        Self::from_fn(|i| u32::from(x[i]) + (m - u32::from(y[i])))
     }
 
     // The element with these words as coefficients, each taken modulo M; missing ones count as 0.
     pub(super) fn reduced(words: &[u16]) -> Self
-        ensures { result ≡ poly N M (word_at words.now) }
+        ensures { result ≡ poly N M (at words.now) }
     {
-        Self::made(|i| u32::from(word_at(words, i)))
+        Self::from_fn(|i| u32::from(word_at(words, i)))
     }
 }

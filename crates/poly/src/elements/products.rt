@@ -39,6 +39,6 @@ where
     {
         let high = &sums[N + 1..];
         let top = Self::modulus() - u32::from(sums[N]) % Self::modulus();
-        Self::made(|i| u32::from(sums[i].wrapping_add(high[i])) + top)
+        Self::from_fn(|i| u32::from(sums[i].wrapping_add(high[i])) + top)
     }
 }

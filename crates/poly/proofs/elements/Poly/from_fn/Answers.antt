@@ -6,7 +6,7 @@ use Rattle.std.proofs.lemmas.Fn.{serves_by}
 use Rattle.poly.specs.Modulus.{modulus}
 use Rattle.poly.specs.Quotient.{same_poly}
 use Rattle.poly.proofs.Made.{call_at}
-use Rattle.poly.proofs.elements.Poly.made.Goals as goal
+use Rattle.poly.proofs.elements.Poly.from_fn.Goals as goal
 
 pub from_fn-requires : goal.from_fn-requires
 from_fn-requires g c = (
