@@ -82,6 +82,13 @@ fn put_sums(x: &[u16], y: &[u16], out: &mut [u16])
     put_each(out, |k, _| x[k].wrapping_add(y[k]));
 }
 
+// What is left of x once a and b are taken away.
+fn less(x: u16, a: u16, b: u16) -> u16
+    ensures { (result + a + b) % 65536 ≡ x % 65536 }
+{
+    x.wrapping_sub(a).wrapping_sub(b)
+}
+
 // Adds to the product of the lower and that of the upper halves, which p holds, the products of one with the other. The
 // product of the sums of the halves has all four.
 fn join(p: &mut [u16], middle: &mut [u16])
@@ -90,7 +97,7 @@ fn join(p: &mut [u16], middle: &mut [u16])
 {
     let n = middle.len();
     let (low, high) = p.split_at(n);
-    put_each(middle, |k, x| x.wrapping_sub(low[k]).wrapping_sub(high[k]));
+    put_each(middle, |k, x| less(x, low[k], high[k]));
     put_each(&mut p[n / 2..n / 2 + n], |k, x| x.wrapping_add(middle[k]));
 }
 
