@@ -12,12 +12,12 @@ use Rattle.poly.proofs.Windows.{added}
 pub joined : (n w : ℕ) (p m l s : List ℕ) → w ≡ n → n / 2 + w ≤ length p → length s ≡ w → length m ≡ n → length l ≡ n
     → ((k : ℕ) → k < n → (at l k + at p k + at p (n + k)) % 65536 ≡ at m k % 65536)
     → Holds (λ k. at (mid_of (n / 2) w p) k + at l k) s → Joined p m (put_mid (n / 2) w p s)
-joined n w p m l s wide inside long long-m long-l taken holds = record {
+joined n w p m l s wide inside long long_m long_l taken holds = record {
   d = at l;
-  left = λ k z. ap (λ j. (at l k + at p k + at p (j + k)) % 65536) long-m ∙ taken k (omega arith);
+  left = λ k z. ap (λ j. (at l k + at p k + at p (j + k)) % 65536) long_m ∙ taken k (omega arith);
   past = λ k z. get_or_past l k 0 (omega arith);
   added = λ k. added (n / 2) w p s inside long (at l) holds (λ j z. get_or_past l j 0 (omega arith)) k
-      ∙ ap (λ j. (at p k + shifted (j / 2) (at l) k) % 65536) (sym long-m);
+      ∙ ap (λ j. (at p k + shifted (j / 2) (at l) k) % 65536) (sym long_m);
 }
 
 -- a list in two parts: the first h places and the others, h places later
@@ -63,28 +63,28 @@ module _ (n h : ℕ) (whole : n ≡ h + h) where
       → length low ≡ n → Holds (conv (at a0) (at b0)) low → length high ≡ n → Holds (conv (at a1) (at b1)) high
       → length m ≡ n → Holds (conv (at sa) (at sb)) m
       → Joined (low ++ high) m r → (k : ℕ) → at r k % 65536 ≡ conv (at a) (at b) k % 65536
-  halves a b a0 a1 b0 b1 sa sb low high m r parts-a parts-b long-a0 long-a1 long-b0 long-b1
-      long_sa holds-sa long_sb holds-sb long_low holds-low long_high holds-high long-m holds-m join k =
+  halves a b a0 a1 b0 b1 sa sb low high m r parts_a parts_b long_a0 long_a1 long_b0 long_b1
+      long_sa holds_sa long_sb holds_sb long_low holds_low long_high holds_high long_m holds_m join k =
       let end : (xs : List ℕ) → length xs ≡ h → (i : ℕ) → h ≤ i → at xs i ≡ 0 = λ xs e i z. get_or_past xs i 0 (omega arith) in
       let past : (xs ys : List ℕ) → length xs ≡ h → length ys ≡ h → (j : ℕ) → n ≤ j → conv (at xs) (at ys) j ≡ 0 =
       λ xs ys e f j z. conv_past h h (at xs) (at ys) (end xs e) (end ys f) j (omega arith) in
-      let lows = everywhere (at a0) (at b0) low (end a0 long-a0) (end b0 long-b0) long_low holds-low in
-      let highs = everywhere (at a1) (at b1) high (end a1 long-a1) (end b1 long-b1) long_high holds-high in
-      let middles = everywhere (at sa) (at sb) m (end sa long_sa) (end sb long_sb) long-m holds-m in
-      let sums-a = sums_everywhere (at a0) (at a1) sa (end a0 long-a0) (end a1 long-a1) long_sa holds-sa in
-      let sums-b = sums_everywhere (at b0) (at b1) sb (end b0 long-b0) (end b1 long-b1) long_sb holds-sb in
+      let lows = everywhere (at a0) (at b0) low (end a0 long_a0) (end b0 long_b0) long_low holds_low in
+      let highs = everywhere (at a1) (at b1) high (end a1 long_a1) (end b1 long_b1) long_high holds_high in
+      let middles = everywhere (at sa) (at sb) m (end sa long_sa) (end sb long_sb) long_m holds_m in
+      let sums_a = sums_everywhere (at a0) (at a1) sa (end a0 long_a0) (end a1 long_a1) long_sa holds_sa in
+      let sums_b = sums_everywhere (at b0) (at b1) sb (end b0 long_b0) (end b1 long_b1) long_sb holds_sb in
       -- the products of one half with the other
       let d : ℕ → ℕ = λ j. conv (at a0) (at b1) j + conv (at a1) (at b0) j in
       let none : (j : ℕ) → n ≤ j → d j ≡ 0 =
-      λ j z. omega (arith, past a0 b1 long-a0 long-b1 j z, past a1 b0 long-a1 long-b0 j z) in
+      λ j z. omega (arith, past a0 b1 long_a0 long_b1 j z, past a1 b0 long_a1 long_b0 j z) in
       let all : (j : ℕ) → at m j % 65536 ≡ (conv (at a0) (at b0) j + d j + conv (at a1) (at b1) j) % 65536 =
-      λ j. middles j ∙ conv_mod 65536 (at sa) (at sb) _ _ sums-a sums-b j
+      λ j. middles j ∙ conv_mod 65536 (at sa) (at sb) _ _ sums_a sums_b j
       ∙ ap (λ v. v % 65536) (nine j) in
       let left : (j : ℕ) → join.d j % 65536 ≡ d j % 65536 =
       λ j. ⊎_elim
       (λ z. omega (
         arith,
-        ap (λ l. (join.d j + at (low ++ high) j + at (low ++ high) (l + j)) % 65536) (sym long-m) ∙ join.left j (omega arith),
+        ap (λ l. (join.d j + at (low ++ high) j + at (low ++ high) (l + j)) % 65536) (sym long_m) ∙ join.left j (omega arith),
         get_or_append_left low high 0 j (omega arith),
         get_or-append_right low high n (n + j) 0 long_low (omega arith) ∙ ap (at high) (behind j),
         lows j,
@@ -96,9 +96,9 @@ module _ (n h : ℕ) (whole : n ≡ h + h) where
       let both : at (low ++ high) k % 65536 ≡ (conv (at a0) (at b0) k + shifted n (conv (at a1) (at b1)) k) % 65536 =
       omega (arith, split n low high long_low k, lows k, shifted_mod n 65536 (at high) (conv (at a1) (at b1)) highs k) in
       let result : at r k % 65536 ≡ (at (low ++ high) k + shifted h join.d k) % 65536 =
-      join.added k ∙ ap (λ i. (at (low ++ high) k + shifted i join.d k) % 65536) (half (length m) long-m) in
+      join.added k ∙ ap (λ i. (at (low ++ high) k + shifted i join.d k) % 65536) (half (length m) long_m) in
       let whole_product : conv (at a) (at b) k ≡ conv (at a0) (at b0) k + shifted h d k + shifted (h + h) (conv (at a1) (at b1)) k =
-      ap₂ (λ f g. conv f g k) (λ t i. (ap (λ xs. at xs i) parts-a ∙ split h a0 a1 long-a0 i) t) (λ t i. (ap (λ xs. at xs i) parts-b ∙ split h b0 b1 long-b0 i) t)
+      ap₂ (λ f g. conv f g k) (λ t i. (ap (λ xs. at xs i) parts_a ∙ split h a0 a1 long_a0 i) t) (λ t i. (ap (λ xs. at xs i) parts_b ∙ split h b0 b1 long_b0 i) t)
       ∙ four h (at a0) (at a1) (at b0) (at b1) k in
       omega (arith, result, shifted_mod h 65536 join.d d left k, whole_product, both, ap (λ i. shifted i (conv (at a1) (at b1)) k) whole)
     where

@@ -119,10 +119,10 @@ module _ (f g : ℕ → ℕ) where
 -- the part of a padded list behind the zeros is the list, widened
 pub widened : (w n : ℕ) (xs ys : List ℕ) → w ≡ n → length xs ≤ n → Padded xs ys
     → (k : ℕ) → at (take w (drop 8 ys)) k ≡ at xs k
-widened w n xs ys wide short places-of k = ⊎_elim within past (cases_lt k n)
+widened w n xs ys wide short places_of k = ⊎_elim within past (cases_lt k n)
   where
     within : k < n → at (take w (drop 8 ys)) k ≡ at xs k
-    within h = let p : at ys (8 + k) ≡ shifted 8 (at xs) (8 + k) = places-of (8 + k) in search (rules, places, p, shifted_above 8 (at xs) (8 + k) (omega arith))
+    within h = let p : at ys (8 + k) ≡ shifted 8 (at xs) (8 + k) = places_of (8 + k) in search (rules, places, p, shifted_above 8 (at xs) (8 + k) (omega arith))
 
     past : n ≤ k → at (take w (drop 8 ys)) k ≡ at xs k
     past h = search (rules, places)

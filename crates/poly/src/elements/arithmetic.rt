@@ -16,7 +16,7 @@ impl<const N: usize, const M: u16> Poly<N, M> {
         u32::from(M.max(1))
     }
 
-    // The element whose coefficient of X^i is f(i), taken modulo M.
+    // The element whose coefficient of X^i is f(i), taken modulo M: where f answers as d does, the polynomial of d.
     pub(super) fn from_fn<F: Fn(usize) -> u32>(f: F) -> Self
         requires { (i : ℕ) → i < N → F.pre f i }
         ensures { (d : ℕ → ℕ) → ((i c : ℕ) → i < N → F.post f i c → c ≡ d i) → result ≡ poly N M d }
@@ -31,6 +31,7 @@ impl<const N: usize, const M: u16> Poly<N, M> {
         }
     }
 
+    // Here and below the closures read slices: what one answers that captures an element would want clauses of its own.
     pub(super) fn sum(&self, other: &Self) -> Self
         ensures { result ≡ poly N M (sum_at self.now other.now) }
     {
