@@ -1,5 +1,5 @@
-// The kinds that are put together. Q(l, k) has l - 1 coefficients modulo 2^k, T(l) has l - 1 modulo 3. One impl for each, since the
-// impl is the proof that the size is served.
+// The kinds that are put together. Q(l, k) has l - 1 coefficients modulo 2^k, T(l) has l - 1 modulo 3. Each has an impl
+// of its own, which is the proof that its size is served.
 ghost use Rattle.std.specs.Prelude.{refl};
 
 use crate::elements::Poly;

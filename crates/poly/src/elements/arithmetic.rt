@@ -31,7 +31,7 @@ impl<const N: usize, const M: u16> Poly<N, M> {
         }
     }
 
-    // Here and below the closures read slices: what one answers that captures an element would want clauses of its own.
+    // The closures here capture slices: one that captured an element would need clauses of its own.
     pub(super) fn sum(&self, other: &Self) -> Self
         ensures { result ≡ poly N M (sum_at self.now other.now) }
     {
