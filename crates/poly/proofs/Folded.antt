@@ -1,5 +1,6 @@
 -- From the coefficients of a product modulo 2^16 to the product of two elements. Assumes nothing.
 use Rattle.std.proofs.Common.{◌≡◌, ℕ, zero, suc, ◌+◌, ◌-◌, ◌*◌, ◌%◌, ◌<◌, ◌≤◌, List, [], ◌∷◌, map, length, get_or, sym, refl, ap, ◌∙◌, ap₂, arith}
+use Rattle.std.proofs.Math.Nat.{mod-add-mod}
 use Rattle.std.proofs.lemmas.List.{length-map}
 use Rattle.quotient.proofs.Coefficients.{product_at, length_times, times_at, reduced_product_at}
 use Rattle.quotient.specs.Polynomials.{times}
@@ -50,6 +51,6 @@ module _ (n m : ℕ) (s : Bounds n m) (x y : Poly n m) where
       ∙ two_exact n m s (coefficient x) (coefficient y) x.small y.small i (suc n + i) (omega arith) (omega arith) in
       let top : at xs n % modulus m ≡ c n % modulus m =
       ap (λ a. a % modulus m) (sums n (omega arith)) ∙ one_exact n m s (coefficient x) (coefficient y) x.small y.small n (omega arith) in
-      same_number _ _ (poly_at n m (folded_at n m xs) i h ∙ ap₂ (λ a b. (a + (modulus m - b)) % modulus m) two top)
+      same_number _ _ (poly_at n m (folded_at n m xs) i h ∙ sym (mod-add-mod _ (modulus m) _) ∙ ap₂ (λ a b. (a + (modulus m - b)) % modulus m) two top)
       ∙ sym (reduced_product_at (integers m) (integer_laws m) n product_of i long h
       ∙ ap₂ (integers m).minus (ap₂ (integers m).plus (coefficient_of i) (coefficient_of (suc n + i)) ∙ sym (of_plus m (c i) (c (suc n + i)))) (coefficient_of n)))

@@ -3,22 +3,21 @@ use Rattle.std.proofs.Common.{◌≡◌, ℕ, ◌+◌, ◌-◌, ◌/◌, ◌%◌
 use borrow.Rule.Slice.PartMut.{mid_of, put_mid}
 use Rattle.std.proofs.lemmas.List.{get_or_past, get_or_append_left, get_or-append_right}
 use Rattle.std.proofs.lemmas.Bool.{cases_lt}
-use Rattle.poly.specs.Lanes.{conv, shifted, Holds, Takes, Joined}
+use Rattle.poly.specs.Lanes.{conv, shifted, Holds, Joined}
 use Rattle.poly.specs.Lists.{at}
 use Rattle.poly.proofs.Convolutions.{shifted_below, shifted_above, shifted_same, shifted_plus, shifted_mod, shifted_shifted, plus_conv, conv_plus, shifted_conv, conv_shifted, conv_past, conv_mod}
-use Rattle.poly.proofs.Windows.{put_long, put_before, put_within, added}
+use Rattle.poly.proofs.Windows.{added}
 
--- what is left of the middle is added
-pub joined : (n h w : ℕ) (p x y m l s : List ℕ) → n / 2 ≡ h → w ≡ n → h + w ≤ length p → length s ≡ w → length m ≡ n → length l ≡ n
-    → ((k : ℕ) → k < n → at x k ≡ at p k) → ((k : ℕ) → k < n → at y k ≡ at p (n + k))
-    → Takes x y m l → Holds (λ k. at (mid_of h w p) k + at l k) s → Joined p m (put_mid h w p s)
-joined n h w p x y m l s half wide inside long long-m long-l xs ys takes holds = record {
+-- what is left of the middle, l, is added to p, half way
+pub joined : (n w : ℕ) (p m l s : List ℕ) → w ≡ n → n / 2 + w ≤ length p → length s ≡ w → length m ≡ n → length l ≡ n
+    → ((k : ℕ) → k < n → (at l k + at p k + at p (n + k)) % 65536 ≡ at m k % 65536)
+    → Holds (λ k. at (mid_of (n / 2) w p) k + at l k) s → Joined p m (put_mid (n / 2) w p s)
+joined n w p m l s wide inside long long_m long_l taken holds = record {
   d = at l;
-  left = λ k z. ap (λ j. (at l k + at p k + at p (j + k)) % 65536) long-m
-      ∙ omega (arith, takes k z, xs k (omega arith), ys k (omega arith));
+  left = λ k z. ap (λ j. (at l k + at p k + at p (j + k)) % 65536) long_m ∙ taken k (omega arith);
   past = λ k z. get_or_past l k 0 (omega arith);
-  added = λ k. added h w p s inside long (at l) holds (λ j z. get_or_past l j 0 (omega arith)) k
-      ∙ ap (λ i. (at p k + shifted i (at l) k) % 65536) (sym (ap (λ j. j / 2) long-m ∙ half));
+  added = λ k. added (n / 2) w p s inside long (at l) holds (λ j z. get_or_past l j 0 (omega arith)) k
+      ∙ ap (λ j. (at p k + shifted (j / 2) (at l) k) % 65536) (sym long_m);
 }
 
 -- a list in two parts: the first h places and the others, h places later
@@ -42,17 +41,6 @@ four h f d g e k =
     ∙ ap (shifted h (conv d g) k +◌) (shifted_shifted h h (conv d e) k) in
     omega (arith, a, b, c, shifted_plus h (conv f e) (conv d g) k)
 
--- a list whose two halves are written one after the other
-pub two_parts : (n w v : ℕ) (p low high : List ℕ) → w ≡ n → v ≡ n → length p ≡ n + n → length low ≡ n → length high ≡ n
-    → let r = put_mid n v (put_mid 0 w p low) high in
-    (length r ≡ n + n) × ((k : ℕ) → k < n → at r k ≡ at low k) × ((k : ℕ) → k < n → at r (n + k) ≡ at high k)
-two_parts n w v p low high wide-w wide-v long long_low long_high =
-    let first : length (put_mid 0 w p low) ≡ n + n = put_long 0 w p low (omega arith) (omega arith) ∙ long in (
-      put_long n v (put_mid 0 w p low) high (omega arith) (omega arith) ∙ first,
-      (λ k z. put_before n v (put_mid 0 w p low) high (omega arith) (omega arith) k z ∙ put_within 0 w p low (omega arith) (omega arith) k (omega arith) (omega arith) ∙ ap (at low) (omega arith)),
-      λ k z. put_within n v (put_mid 0 w p low) high (omega arith) (omega arith) (n + k) (omega arith) (omega arith) ∙ ap (at high) (omega arith),
-    )
-
 -- a list with the product of two halves has it at every place
 module _ (n h : ℕ) (whole : n ≡ h + h) where
   everywhere : (f g : ℕ → ℕ) (xs : List ℕ) → ((i : ℕ) → h ≤ i → f i ≡ 0) → ((i : ℕ) → h ≤ i → g i ≡ 0)
@@ -69,53 +57,53 @@ module _ (n h : ℕ) (whole : n ≡ h + h) where
       ⊎_elim (λ z. holds k (omega arith)) (λ z. omega (arith, get_or_past xs k 0 (omega arith), p k z, q k z)) (cases_lt k h)
 
   -- the product of a and b from those of the lower halves, of the upper halves and of the sums of both
-  pub halves : (a b a0 a1 b0 b1 sa sb low high m p r : List ℕ)
+  pub halves : (a b a0 a1 b0 b1 sa sb low high m r : List ℕ)
       → a ≡ a0 ++ a1 → b ≡ b0 ++ b1 → length a0 ≡ h → length a1 ≡ h → length b0 ≡ h → length b1 ≡ h
       → length sa ≡ h → Holds (λ k. at a0 k + at a1 k) sa → length sb ≡ h → Holds (λ k. at b0 k + at b1 k) sb
       → length low ≡ n → Holds (conv (at a0) (at b0)) low → length high ≡ n → Holds (conv (at a1) (at b1)) high
       → length m ≡ n → Holds (conv (at sa) (at sb)) m
-      → length p ≡ n + n → ((k : ℕ) → k < n → at p k ≡ at low k) → ((k : ℕ) → k < n → at p (n + k) ≡ at high k)
-      → Joined p m r → (k : ℕ) → at r k % 65536 ≡ conv (at a) (at b) k % 65536
-  halves a b a0 a1 b0 b1 sa sb low high m p r parts-a parts-b long-a0 long-a1 long-b0 long-b1
-      long_sa holds-sa long_sb holds-sb long_low holds-low long_high holds-high long-m holds-m long-p in-low in-high join k =
+      → Joined (low ++ high) m r → (k : ℕ) → at r k % 65536 ≡ conv (at a) (at b) k % 65536
+  halves a b a0 a1 b0 b1 sa sb low high m r parts_a parts_b long_a0 long_a1 long_b0 long_b1
+      long_sa holds_sa long_sb holds_sb long_low holds_low long_high holds_high long_m holds_m join k =
       let end : (xs : List ℕ) → length xs ≡ h → (i : ℕ) → h ≤ i → at xs i ≡ 0 = λ xs e i z. get_or_past xs i 0 (omega arith) in
       let past : (xs ys : List ℕ) → length xs ≡ h → length ys ≡ h → (j : ℕ) → n ≤ j → conv (at xs) (at ys) j ≡ 0 =
       λ xs ys e f j z. conv_past h h (at xs) (at ys) (end xs e) (end ys f) j (omega arith) in
-      let lows = everywhere (at a0) (at b0) low (end a0 long-a0) (end b0 long-b0) long_low holds-low in
-      let highs = everywhere (at a1) (at b1) high (end a1 long-a1) (end b1 long-b1) long_high holds-high in
-      let middles = everywhere (at sa) (at sb) m (end sa long_sa) (end sb long_sb) long-m holds-m in
-      let sums-a = sums_everywhere (at a0) (at a1) sa (end a0 long-a0) (end a1 long-a1) long_sa holds-sa in
-      let sums-b = sums_everywhere (at b0) (at b1) sb (end b0 long-b0) (end b1 long-b1) long_sb holds-sb in
+      let lows = everywhere (at a0) (at b0) low (end a0 long_a0) (end b0 long_b0) long_low holds_low in
+      let highs = everywhere (at a1) (at b1) high (end a1 long_a1) (end b1 long_b1) long_high holds_high in
+      let middles = everywhere (at sa) (at sb) m (end sa long_sa) (end sb long_sb) long_m holds_m in
+      let sums_a = sums_everywhere (at a0) (at a1) sa (end a0 long_a0) (end a1 long_a1) long_sa holds_sa in
+      let sums_b = sums_everywhere (at b0) (at b1) sb (end b0 long_b0) (end b1 long_b1) long_sb holds_sb in
       -- the products of one half with the other
       let d : ℕ → ℕ = λ j. conv (at a0) (at b1) j + conv (at a1) (at b0) j in
       let none : (j : ℕ) → n ≤ j → d j ≡ 0 =
-      λ j z. omega (arith, past a0 b1 long-a0 long-b1 j z, past a1 b0 long-a1 long-b0 j z) in
+      λ j z. omega (arith, past a0 b1 long_a0 long_b1 j z, past a1 b0 long_a1 long_b0 j z) in
       let all : (j : ℕ) → at m j % 65536 ≡ (conv (at a0) (at b0) j + d j + conv (at a1) (at b1) j) % 65536 =
-      λ j. middles j ∙ conv_mod 65536 (at sa) (at sb) _ _ sums-a sums-b j
+      λ j. middles j ∙ conv_mod 65536 (at sa) (at sb) _ _ sums_a sums_b j
       ∙ ap (λ v. v % 65536) (nine j) in
       let left : (j : ℕ) → join.d j % 65536 ≡ d j % 65536 =
       λ j. ⊎_elim
-      (λ z. omega (arith, ap (λ l. (join.d j + at p j + at p (l + j)) % 65536) (sym long-m) ∙ join.left j (omega arith), in-low j z, in-high j z, lows j, highs j, all j))
+      (λ z. omega (
+        arith,
+        ap (λ l. (join.d j + at (low ++ high) j + at (low ++ high) (l + j)) % 65536) (sym long_m) ∙ join.left j (omega arith),
+        get_or_append_left low high 0 j (omega arith),
+        get_or-append_right low high n (n + j) 0 long_low (omega arith) ∙ ap (at high) (behind j),
+        lows j,
+        highs j,
+        all j,
+      ))
       (λ z. omega (arith, join.past j (omega arith), none j z))
       (cases_lt j n) in
-      let both : at p k % 65536 ≡ (conv (at a0) (at b0) k + shifted n (conv (at a1) (at b1)) k) % 65536 =
-      ⊎_elim
-      (λ z. omega (arith, in-low k z, lows k, shifted_below n (conv (at a1) (at b1)) k z))
-      (λ z. let later = shifted_above n (conv (at a1) (at b1)) k z in
-      ⊎_elim
-      (λ y. omega (arith, ap (at p) (there k z) ∙ in-high (k - n) (omega arith), highs (k - n), later, past a0 b0 long-a0 long-b0 k z))
-      (λ y. omega (arith, get_or_past p k 0 (omega arith), later, past a0 b0 long-a0 long-b0 k z, past a1 b1 long-a1 long-b1 (k - n) (omega arith)))
-      (cases_lt k (n + n)))
-      (cases_lt k n) in
-      let result : at r k % 65536 ≡ (at p k + shifted h join.d k) % 65536 =
-      join.added k ∙ ap (λ i. (at p k + shifted i join.d k) % 65536) (half (length m) long-m) in
+      let both : at (low ++ high) k % 65536 ≡ (conv (at a0) (at b0) k + shifted n (conv (at a1) (at b1)) k) % 65536 =
+      omega (arith, split n low high long_low k, lows k, shifted_mod n 65536 (at high) (conv (at a1) (at b1)) highs k) in
+      let result : at r k % 65536 ≡ (at (low ++ high) k + shifted h join.d k) % 65536 =
+      join.added k ∙ ap (λ i. (at (low ++ high) k + shifted i join.d k) % 65536) (half (length m) long_m) in
       let whole_product : conv (at a) (at b) k ≡ conv (at a0) (at b0) k + shifted h d k + shifted (h + h) (conv (at a1) (at b1)) k =
-      ap₂ (λ f g. conv f g k) (λ t i. (ap (λ xs. at xs i) parts-a ∙ split h a0 a1 long-a0 i) t) (λ t i. (ap (λ xs. at xs i) parts-b ∙ split h b0 b1 long-b0 i) t)
+      ap₂ (λ f g. conv f g k) (λ t i. (ap (λ xs. at xs i) parts_a ∙ split h a0 a1 long_a0 i) t) (λ t i. (ap (λ xs. at xs i) parts_b ∙ split h b0 b1 long_b0 i) t)
       ∙ four h (at a0) (at a1) (at b0) (at b1) k in
       omega (arith, result, shifted_mod h 65536 join.d d left k, whole_product, both, ap (λ i. shifted i (conv (at a1) (at b1)) k) whole)
     where
-      there : (k : ℕ) → n ≤ k → k ≡ n + (k - n)
-      there k z = omega arith
+      behind : (j : ℕ) → n + j - n ≡ j
+      behind j = omega arith
 
       half : (l : ℕ) → l ≡ n → l / 2 ≡ h
       half l e = omega arith

@@ -1,9 +1,7 @@
 -- Lemmas for the proofs of `poly`.
-pub mod Places
 pub mod Convolutions
 pub mod Windows
 pub mod Halves
 pub mod Exact
 pub mod Folded
 pub mod Made
-pub mod Remainders

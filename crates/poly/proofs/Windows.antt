@@ -1,40 +1,26 @@
 -- Additions into a part of a list, and the rows of a product, modulo 2^16. Assumes nothing.
-use Rattle.std.proofs.Common.{◌≡◌, ℕ, zero, suc, ◌+◌, ◌-◌, ◌*◌, ◌%◌, ◌<◌, ◌≤◌, List, ◌++◌, length, take, drop, set, replicate, sym, refl, ap, ◌∙◌, ap₂, ⊎_elim, add_assoc, mul-zero, zero-add, arith}
+use Rattle.std.proofs.Common.{◌≡◌, ℕ, zero, suc, ◌+◌, ◌-◌, ◌*◌, ◌%◌, ◌<◌, ◌≤◌, List, [], length, get_or, take, drop, replicate, sym, refl, ap, ◌∙◌, ap₂, ⊎_elim, add_assoc, mul-zero, arith, rules}
 use borrow.Rule.Slice.PartMut.{mid_of, put_mid}
-use Rattle.std.proofs.lemmas.List.{length-set, get_or-set_same, get_or-set_other, get_or_past, get_or-take, get_or-drop, length-take, length-take-le, length-drop, length-append, get_or_append_left, get_or-append_right}
+use Rattle.std.proofs.lemmas.List.{places, get_or_past, get_or-take, get_or-drop}
 use Rattle.std.proofs.lemmas.Bool.{cases_lt}
+use Rattle.std.specs.Simd.{first_chunks}
 use Rattle.poly.specs.Lanes.{conv, shifted, rows_at, Holds, Padded}
 use Rattle.poly.specs.Lists.{at}
 use Rattle.poly.proofs.Convolutions.{shifted_below, shifted_above, shifted_plus, shifted_same, shifted_shifted, shifted_none, rows_shifted, conv_none}
 
 -- the places of a list of which a part of w places from i on is written anew
 module _ (i w : ℕ) (p s : List ℕ) (inside : i + w ≤ length p) (long : length s ≡ w) where
-  pub put_long : length (put_mid i w p s) ≡ length p
-  put_long =
-      let rest = drop w (drop i p) in
-      omega (arith, length-append (take i p) (s ++ rest), length-append s rest, length-take-le i p (omega arith), length-drop w (drop i p), length-drop i p)
-
   pub put_before : (k : ℕ) → k < i → at (put_mid i w p s) k ≡ at p k
-  put_before k h = get_or_append_left (take i p) _ 0 k (omega (arith, length-take-le i p (omega arith))) ∙ get_or-take i p k 0 h
+  put_before k h = search (rules, places)
 
   pub put_within : (k : ℕ) → i ≤ k → k < i + w → at (put_mid i w p s) k ≡ at s (k - i)
-  put_within k h j =
-      get_or-append_right (take i p) _ i k 0 (length-take-le i p (omega arith)) h ∙ get_or_append_left s _ 0 (k - i) (omega arith)
+  put_within k h j = search (rules, places)
 
   put_after : (k : ℕ) → i + w ≤ k → at (put_mid i w p s) k ≡ at p k
-  put_after k h =
-      get_or-append_right (take i p) _ i k 0 (length-take-le i p (omega arith)) (omega arith)
-      ∙ get_or-append_right s _ w (k - i) 0 long (omega arith)
-      ∙ get_or-drop w (drop i p) (k - i - w) 0 ∙ get_or-drop i p (w + (k - i - w)) 0 ∙ ap (at p) (whole k h)
-    where
-      whole : (k : ℕ) → i + w ≤ k → i + (w + (k - i - w)) ≡ k
-      whole k h = omega arith
+  put_after k h = search (rules, places)
 
   mid_at : (k : ℕ) → i ≤ k → k < i + w → at (mid_of i w p) (k - i) ≡ at p k
-  mid_at k h j = get_or-take w (drop i p) (k - i) 0 (omega arith) ∙ get_or-drop i p (k - i) 0 ∙ ap (at p) (back k h)
-    where
-      back : (k : ℕ) → i ≤ k → i + (k - i) ≡ k
-      back k h = omega arith
+  mid_at k h j = search (rules, places)
 
   -- so where d was added to the part, it was added to the list, i places later
   pub added : (d : ℕ → ℕ) → Holds (λ k. at (mid_of i w p) k + d k) s → ((k : ℕ) → w ≤ k → d k ≡ 0)
@@ -65,56 +51,45 @@ rows_none zero f g k q = refl
 rows_none (suc r) f g k q =
     ap₂ ◌+◌ (ap (f 0 *◌) (q r (omega arith)) ∙ mul-zero (f 0)) (rows_none r (λ i. f (suc i)) g k (λ j h. q j (omega arith)))
 
-pub zeros_at : (n k : ℕ) → at (replicate n 0) k ≡ 0
-zeros_at zero k = refl
-zeros_at (suc n) zero = refl
-zeros_at (suc n) (suc k) = zeros_at n k
+zeros_at : (n k : ℕ) → at (replicate n 0) k ≡ 0
+zeros_at n k = ⊎_elim (λ h. search (rules, places)) (λ h. search (rules, places)) (cases_lt k n)
 
--- a list that holds the first k coefficients of b behind eight zeros
-abbrev pub Shifting : List ℕ → ℕ → List ℕ → Type 0
-Shifting b k xs =
-    (length xs ≡ 848) × ((j : ℕ) → j < 8 → at xs j ≡ 0)
-    × ((j : ℕ) → j < k → at xs (8 + j) ≡ at b j) × ((j : ℕ) → k ≤ j → at xs (8 + j) ≡ 0)
-
-pub shifting_none : (b : List ℕ) → Shifting b 0 (replicate 848 0)
-shifting_none b = (refl, (λ j h. zeros_at 848 j), (λ j h. absurd (omega arith)), λ j h. zeros_at 848 (8 + j))
-
-pub shifting_more : (b : List ℕ) (k : ℕ) (xs : List ℕ) → k < 832 → Shifting b k xs → Shifting b (k + 1) (set xs (k + 8) (at b k))
-shifting_more b k xs h done = (
-  length-set xs (k + 8) (at b k) ∙ done.0,
-  (λ j p. get_or-set_other xs (k + 8) j (at b k) 0 (omega arith) ∙ done.1 j p),
-  (λ j p. ⊎_elim
-      (λ q. get_or-set_other xs (k + 8) (8 + j) (at b k) 0 (omega arith) ∙ done.2 j q)
-      (λ q. ap (at (set xs (k + 8) (at b k))) (here j k p q) ∙ get_or-set_same xs (k + 8) (at b k) 0 (omega (arith, done.0)) ∙ ap (at b) (there j k p q))
-      (cases_lt j k)),
-  λ j p. get_or-set_other xs (k + 8) (8 + j) (at b k) 0 (omega arith) ∙ done.3 j (omega arith),
-)
+-- b, written into zeros eight places later
+pub padded_places : (w : ℕ) (b s : List ℕ) → w ≡ length b → s ≡ b → length b ≤ 832 → Padded b (put_mid 8 w (replicate 848 0) s)
+padded_places w b s wide same most k =
+    ⊎_elim before from (cases_lt k 8)
   where
-    here : (j k : ℕ) → j < k + 1 → k ≤ j → 8 + j ≡ k + 8
-    here j k p q = omega arith
+    zeros : List ℕ
+    zeros = replicate 848 0
 
-    there : (j k : ℕ) → j < k + 1 → k ≤ j → k ≡ j
-    there j k p q = omega arith
+    inside : 8 + w ≤ length zeros
+    inside = omega arith
 
-pub shifting_all : (b : List ℕ) (k : ℕ) (xs : List ℕ) → length b ≤ k → Shifting b k xs → Padded b xs
-shifting_all b k xs h done j = ⊎_elim (λ z. done.1 j z ∙ sym (shifted_below 8 (at b) j z)) (λ z. behind z ∙ sym (shifted_above 8 (at b) j z)) (cases_lt j 8)
-  where
-    whole : 8 ≤ j → j ≡ 8 + (j - 8)
-    whole z = omega arith
+    long : length s ≡ w
+    long = ap length same ∙ sym wide
 
-    behind : 8 ≤ j → at xs j ≡ at b (j - 8)
-    behind z =
-        ap (at xs) (whole z)
-        ∙ ⊎_elim (λ q. done.2 (j - 8) q) (λ q. done.3 (j - 8) q ∙ sym (get_or_past b (j - 8) 0 (omega arith))) (cases_lt (j - 8) k)
+    before : k < 8 → at (put_mid 8 w zeros s) k ≡ shifted 8 (at b) k
+    before h = put_before 8 w zeros s inside long k h ∙ zeros_at 848 k ∙ sym (shifted_below 8 (at b) k h)
+
+    from : 8 ≤ k → at (put_mid 8 w zeros s) k ≡ shifted 8 (at b) k
+    from h =
+        ⊎_elim
+        (λ j. put_within 8 w zeros s inside long k h j ∙ ap (λ xs. at xs (k - 8)) same)
+        (λ j. put_after 8 w zeros s inside long k j ∙ zeros_at 848 k ∙ sym (get_or_past b (k - 8) 0 (omega arith)))
+        (cases_lt k (8 + w))
+        ∙ sym (shifted_above 8 (at b) k h)
+
+-- the k-th of the chunks of eight
+pub chunk_at : (count k j : ℕ) (xs : List ℕ) → k < count → j < 8 → at (get_or (first_chunks 8 count xs) k []) j ≡ at xs (8 * k + j)
+chunk_at zero k j xs h i = absurd (omega arith)
+chunk_at (suc count) zero j xs h i = get_or-take 8 xs j 0 i ∙ ap (at xs) (omega arith)
+chunk_at (suc count) (suc k) j xs h i =
+    chunk_at count k j (drop 8 xs) (omega arith) i ∙ get_or-drop 8 xs (8 * k + j) 0 ∙ ap (at xs) (omega arith)
 
 module _ (f g : ℕ → ℕ) where
   -- what is in p and the rows from i on make up the product of f and g, modulo 2^16
   abbrev pub Left : ℕ → List ℕ → Type 0
   Left i p = (k : ℕ) → (at p k + shifted i (conv (λ j. f (i + j)) g) k) % 65536 ≡ conv f g k % 65536
-
-  pub left_none : (p : List ℕ) → ((k : ℕ) → at p k ≡ 0) → Left 0 p
-  left_none p empty k =
-      ap₂ (λ v d. (v + conv d g k) % 65536) (empty k) (λ t j. f (zero-add j t)) ∙ ap (λ v. v % 65536) (zero-add (conv f g k))
 
   -- eight rows more
   pub left_more : (n i w : ℕ) (p c b s : List ℕ) → ((k : ℕ) → n ≤ k → g k ≡ 0) → w ≡ n + 8 → i + w ≤ length p → length s ≡ w
@@ -144,15 +119,10 @@ module _ (f g : ℕ → ℕ) where
 -- the part of a padded list behind the zeros is the list, widened
 pub widened : (w n : ℕ) (xs ys : List ℕ) → w ≡ n → length xs ≤ n → Padded xs ys
     → (k : ℕ) → at (take w (drop 8 ys)) k ≡ at xs k
-widened w n xs ys wide short places k = ⊎_elim within past (cases_lt k n)
+widened w n xs ys wide short places_of k = ⊎_elim within past (cases_lt k n)
   where
-    less : 8 + k - 8 ≡ k
-    less = omega arith
-
     within : k < n → at (take w (drop 8 ys)) k ≡ at xs k
-    within h =
-        get_or-take w (drop 8 ys) k 0 (omega arith) ∙ get_or-drop 8 ys k 0 ∙ places (8 + k)
-        ∙ shifted_above 8 (at xs) (8 + k) (omega arith) ∙ ap (at xs) less
+    within h = let p : at ys (8 + k) ≡ shifted 8 (at xs) (8 + k) = places_of (8 + k) in search (rules, places, p, shifted_above 8 (at xs) (8 + k) (omega arith))
 
     past : n ≤ k → at (take w (drop 8 ys)) k ≡ at xs k
-    past h = get_or_past (take w (drop 8 ys)) k 0 (omega (arith, length-take w (drop 8 ys))) ∙ sym (get_or_past xs k 0 (omega arith))
+    past h = search (rules, places)

@@ -44,13 +44,10 @@ ops n m = record {
 }
 
 -- the words are the coefficients; of other words, missing ones count as 0 and too large ones are reduced
-abbrev pub word_at : List ℕ → ℕ → ℕ
-word_at ws i = slice_index ws i
-
 abbrev pub coding : (n m : ℕ) → Coding (Poly n m)
 coding n m = record {
   width = n;
   limit = modulus m;
   words = λ x. x.coeffs;
-  element = λ ws. poly n m (word_at ws);
+  element = λ ws. poly n m (at ws);
 }

@@ -23,10 +23,6 @@ rows_at (suc r) f g k = f 0 * g (k + suc r) + rows_at r (λ i. f (suc i)) g k
 abbrev pub Holds : (ℕ → ℕ) → List ℕ → Type 0
 Holds d xs = (k : ℕ) → k < length xs → at xs k % 65536 ≡ d k % 65536
 
--- what is left of xs, place by place, once a and b are taken away modulo 2^16
-abbrev pub Takes : List ℕ → List ℕ → List ℕ → List ℕ → Type 0
-Takes a b xs ys = (k : ℕ) → k < length xs → (at ys k + at a k + at b k) % 65536 ≡ at xs k % 65536
-
 -- the list holds X^8 b
 abbrev pub Padded : List ℕ → List ℕ → Type 0
 Padded b xs = (k : ℕ) → at xs k ≡ shifted 8 (at b) k
@@ -51,4 +47,4 @@ Coefficients a b r = (k : ℕ) → k ≤ length a + length b → at r k ≡ conv
 
 -- from the coefficients of a product modulo 2^16: that of X^i and of X^(n+1+i), less that of X^n, before it is taken modulo m
 abbrev pub folded_at : ℕ → ℕ → List ℕ → ℕ → ℕ
-folded_at n m xs i = ((at xs i + at xs (i + n + 1)) % 65536) % modulus m + (modulus m - at xs n % modulus m)
+folded_at n m xs i = (at xs i + at xs (i + n + 1)) % 65536 + (modulus m - at xs n % modulus m)

@@ -7,8 +7,9 @@ use Rattle.kinds.specs.Ring.{Laws}
 use Rattle.kinds.specs.Words.{Codes}
 use Rattle.quotient.specs.Polynomials.{plus, times}
 use Rattle.quotient.proofs.Quotients.{product_comm, product_assoc, product_one, product_plus, reduced_sum}
-use Rattle.poly.specs.Elements.{coefficient, poly, listing, sum_at, difference_at, ops, word_at, coding}
+use Rattle.poly.specs.Elements.{coefficient, poly, listing, sum_at, difference_at, ops, coding}
 use Rattle.poly.specs.Integers.{integers, integer_laws, added_taken, taken_added, assoc_mod}
+use Rattle.poly.specs.Lists.{at}
 use Rattle.poly.specs.Modulus.{modulus}
 use Rattle.poly.specs.Quotient.{poly_at, same_poly, same_reductions, quotient}
 use Rattle.poly.specs.declared.elements.Poly.{Poly}
@@ -73,8 +74,8 @@ codes n m = record {
   element_words = λ x. sym (same_poly n m x (coefficient x) (λ i h. sym (own x i)));
   words_element = λ ws good.
       let long : length ws ≡ n = omega (arith, good.counted) in
-      let x = poly n m (word_at ws) in
+      let x = poly n m (at ws) in
       ext_get_or 0 x.coeffs ws (x.long ∙ sym long) (λ i h.
       let below : i < n = omega (arith, x.long) in
-      poly_at n m (word_at ws) i below ∙ mod-eq_of_lt (good.small i (omega (arith, long))));
+      poly_at n m (at ws) i below ∙ mod-eq_of_lt (good.small i (omega (arith, long))));
 }

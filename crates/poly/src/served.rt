@@ -2,11 +2,7 @@
 ghost use Rattle.std.specs.Prelude.{◌≡◌, true};
 ghost use Rattle.poly.specs.Sizes.{served};
 
-// Stands for a number of coefficients and a modulus.
-#[derive(Clone, Copy)]
-pub struct Size<const N: usize, const M: u16>;
-
-// That a size is served: from 2 to 820 coefficients, modulo 3 or modulo 2^k with k from 1 to 13.
+// That polynomials of this size have products: from 2 to 820 coefficients, modulo 3 or modulo 2^k with k from 1 to 13.
 pub trait Served<const N: usize, const M: u16> {
     ghost within: { served N M ≡ true };
 }

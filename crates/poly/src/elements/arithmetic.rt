@@ -1,63 +1,56 @@
 // Elements made coefficient by coefficient.
-ghost use Rattle.std.specs.Prelude.{◌≡◌, ◌+◌, ◌-◌, ◌%◌, ◌<◌};
-ghost use Rattle.poly.specs.Elements.{poly, sum_at, difference_at, word_at};
+ghost use Rattle.std.specs.Prelude.{◌≡◌, ℕ, ◌%◌, ◌<◌};
+ghost use Rattle.poly.specs.Elements.{poly, sum_at, difference_at};
+ghost use Rattle.poly.specs.Lists.{at};
 ghost use Rattle.poly.specs.Modulus.{modulus};
 
 use super::Poly;
 use kinds::words::word_at;
-
-// a + b modulo m.
-fn add_mod(a: u16, b: u16, m: u16) -> u16
-    requires { (a < modulus m) × (b < modulus m) }
-    ensures { result ≡ (a + b) % modulus m }
-{
-    let gap = m - b;
-    if a >= gap { a - gap } else { a + b }
-}
-
-// a - b modulo m.
-pub(super) fn sub_mod(a: u16, b: u16, m: u16) -> u16
-    requires { (a < modulus m) × (b < modulus m) }
-    ensures { result ≡ (a + (modulus m - b)) % modulus m }
-{
-    if a >= b { a - b } else { a + (m - b) }
-}
-
-pub(super) fn reduce(a: u16, m: u16) -> u16
-    ensures { result ≡ a % modulus m }
-{
-    a % m.max(1)
-}
+use std::array;
 
 impl<const N: usize, const M: u16> Poly<N, M> {
+    // The modulus of the coefficients.
+    pub(super) fn modulus() -> u32
+        ensures { result ≡ modulus M }
+    {
+        u32::from(M.max(1))
+    }
+
+    // The element whose coefficient of X^i is f(i), taken modulo M: where f answers as d does, the polynomial of d.
+    pub(super) fn from_fn<F: Fn(usize) -> u32>(f: F) -> Self
+        requires { (i : ℕ) → i < N → F.pre f i }
+        ensures { (d : ℕ → ℕ) → ((i c : ℕ) → i < N → F.post f i c → c ≡ d i) → result ≡ poly N M d }
+    {
+        Poly {
+            coeffs: array::from_fn(
+                |i| -> u16
+                    requires { F.pre f i }
+                    ensures { (c : ℕ) × F.post f i c × (result ≡ c % modulus M) }
+                { (f(i) % Self::modulus()) as u16 },
+            ),
+        }
+    }
+
+    // The closures here capture slices: one that captured an element would need clauses of its own.
     pub(super) fn sum(&self, other: &Self) -> Self
         ensures { result ≡ poly N M (sum_at self.now other.now) }
     {
-        let mut coeffs = [0; N];
-        for (i, c) in coeffs.iter_mut().enumerate() {
-            *c = add_mod(self.coeffs[i], other.coeffs[i], M);
-        }
-        Poly { coeffs }
+        let (x, y) = (self.coeffs.as_slice(), other.coeffs.as_slice());
+        Self::from_fn(|i| u32::from(x[i]) + u32::from(y[i]))
     }
 
     pub(super) fn difference(&self, other: &Self) -> Self
         ensures { result ≡ poly N M (difference_at self.now other.now) }
     {
-        let mut coeffs = [0; N];
-        for (i, c) in coeffs.iter_mut().enumerate() {
-            *c = sub_mod(self.coeffs[i], other.coeffs[i], M);
-        }
-        Poly { coeffs }
+        let m = Self::modulus();
+        let (x, y) = (self.coeffs.as_slice(), other.coeffs.as_slice());
+        Self::from_fn(|i| u32::from(x[i]) + (m - u32::from(y[i])))
     }
 
     // The element with these words as coefficients, each taken modulo M; missing ones count as 0.
     pub(super) fn reduced(words: &[u16]) -> Self
-        ensures { result ≡ poly N M (word_at words.now) }
+        ensures { result ≡ poly N M (at words.now) }
     {
-        let mut coeffs = [0; N];
-        for (i, c) in coeffs.iter_mut().enumerate() {
-            *c = reduce(word_at(words, i), M);
-        }
-        Poly { coeffs }
+        Self::from_fn(|i| u32::from(word_at(words, i)))
     }
 }

@@ -12,7 +12,7 @@ fn centre(c: u16, m: u16) -> i16
     requires { c < modulus m }
     ensures { result ≡ centred (modulus m) c }
 {
-    if 2 * u32::from(c) > u32::from(m) {
+    if c > m / 2 {
         -((m - c) as i16)
     } else {
         c as i16
@@ -45,6 +45,7 @@ impl<const N: usize, const M: u16> Poly<N, M> {
         requires { length out.old ≡ N }
         ensures { out.new ≡ centred_numbers self.now }
     {
+        // By index: of what is written through `iter_mut().zip(..)` a proof knows only the length.
         for (i, number) in out.iter_mut().enumerate() {
             *number = centre(self.coeffs[i], M);
         }

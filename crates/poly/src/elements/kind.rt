@@ -1,22 +1,22 @@
 // Polynomials as a kind.
 ghost use Rattle.std.specs.Prelude.{refl};
-ghost use Rattle.poly.specs.Elements.{ops as poly-ops, coding as poly-coding};
-ghost use Rattle.poly.specs.Laws.{laws as poly-laws, codes as poly-codes};
+ghost use Rattle.poly.specs.Elements.{ops as poly_ops, coding as poly_coding};
+ghost use Rattle.poly.specs.Laws.{laws as poly_laws, codes as poly_codes};
 ghost use Rattle.poly.specs.Modulus.{modulus};
 
 use super::Poly;
-use crate::served::{Served, Size};
+use crate::served::Served;
 use kinds::words::word_at;
 use kinds::{Kind, Ring};
 
 impl<const N: usize, const M: u16> Kind for Poly<N, M> {
-    ghost ops = { poly-ops N M };
+    ghost ops = { poly_ops N M };
 
-    ghost laws = { poly-laws N M };
+    ghost laws = { poly_laws N M };
 
-    ghost coding = { poly-coding N M };
+    ghost coding = { poly_coding N M };
 
-    ghost codes = { poly-codes N M };
+    ghost codes = { poly_codes N M };
 
     const WORDS: usize = N;
 
@@ -53,7 +53,7 @@ impl<const N: usize, const M: u16> Kind for Poly<N, M> {
 
 impl<const N: usize, const M: u16> Ring for Poly<N, M>
 where
-    Size<N, M>: Served<N, M>,
+    Self: Served<N, M>,
 {
     fn one() -> Self {
         Self::reduced(&[1])

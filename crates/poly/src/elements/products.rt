@@ -6,13 +6,12 @@ ghost use Rattle.poly.specs.Modulus.{modulus};
 ghost use Rattle.poly.specs.Quotient.{Quotient};
 
 use super::Poly;
-use super::arithmetic::{reduce, sub_mod};
 use crate::lanes::{PRODUCT, put_product};
-use crate::served::{Served, Size};
+use crate::served::Served;
 
 impl<const N: usize, const M: u16> Poly<N, M>
 where
-    Size<N, M>: Served<N, M>,
+    Self: Served<N, M>,
 {
     // The product of two elements: that of the polynomials, exponents reduced modulo N + 1, then the coefficient of X^N
     // subtracted from every other. So elements are the polynomials modulo 1 + X + ... + X^N and M.
@@ -32,25 +31,14 @@ where
         Self::folded(&sums)
     }
 
-    // The element that a product is reduced to, from its coefficients modulo 2^16.
+    // The element that a product is reduced to, from its coefficients modulo 2^16: X^(N + 1 + i) counts as X^i, and the
+    // coefficient of X^N is subtracted.
     fn folded(sums: &[u16]) -> Self
         requires { N + N + 1 ≤ length sums.now }
         ensures { result ≡ poly N M (folded_at N M sums.now) }
     {
-        let mut coeffs = [0; N];
-        for (i, c) in coeffs.iter_mut().enumerate() {
-            *c = Self::folded_at(sums, i);
-        }
-        Poly { coeffs }
-    }
-
-    // X^(N + 1 + i) counts as X^i, and the coefficient of X^N is subtracted.
-    fn folded_at(sums: &[u16], i: usize) -> u16
-        requires { (i < N) × (N + N + 1 ≤ length sums.now) }
-        ensures { result ≡ folded_at N M sums.now i % modulus M }
-    {
-        let both = reduce(sums[i].wrapping_add(sums[i + N + 1]), M);
-        let top = reduce(sums[N], M);
-        sub_mod(both, top, M)
+        let high = &sums[N + 1..];
+        let top = Self::modulus() - u32::from(sums[N]) % Self::modulus();
+        Self::from_fn(|i| u32::from(sums[i].wrapping_add(high[i])) + top)
     }
 }

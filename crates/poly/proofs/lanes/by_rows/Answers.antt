@@ -1,29 +1,29 @@
--- No rows are there at first, each turn adds eight, and at the end none is left.
-use Rattle.std.proofs.Common.{◌≡◌, ℕ, ◌+◌, ◌-◌, ◌*◌, ◌<◌, length, take, drop, replicate, ap, ◌∙◌, arith, rules}
-use Rattle.std.proofs.lemmas.List.{get_or_past, get_or-take, get_or-drop}
+-- Each turn adds eight rows, and at the end none is left.
+use Rattle.std.proofs.Common.{◌≡◌, ◌+◌, ◌-◌, ◌*◌, ◌/◌, ◌<◌, length, get_or, [], ap, subst, ◌∙◌, arith, rules}
+use borrow.Rule.Slice.PartMut.{put_mid}
+use Rattle.std.proofs.lemmas.List.{get_or_past}
 use Rattle.poly.specs.Lists.{at}
-use Rattle.poly.proofs.Windows.{zeros_at, left_none, left_more, left_all}
+use Rattle.poly.proofs.Windows.{Left, left_more, left_all, chunk_at}
 use Rattle.poly.proofs.lanes.by_rows.Goals as goal
 
-pub loop-i-init : goal.loop-i-init
-loop-i-init c =
-    let zeros : c.fill.new.self ≡ replicate (length c.args.p.now) 0 = search rules in
-    (omega arith, left_none (at c.args.a.now) (at c.args.b.now) c.fill.new.self (λ k. ap (λ p. at p k) zeros ∙ zeros_at (length c.args.p.now) k))
-
-pub loop-i-preserved : goal.loop-i-preserved
-loop-i-preserved c =
-    let i = c.loop-i.i in
-    let n = length c.args.b.now in
-    let w = i + n + 8 - i in
-    let long : length c.loop-i.p ≡ 2 * n = omega (arith, c.loop-i.auto.p, c.fill.ensures.len, c.requires.room) in
+pub loop-k-preserved : goal.loop-k-preserved
+loop-k-preserved c =
+    let a = c.args.a.now in
+    let b = c.args.b.now in
+    let k = c.loop-k.k in
+    let n = length b in
+    let w = 8 * k + n + 8 - 8 * k in
+    let p = c.loop-k.p in
+    let long : length p ≡ 2 * n = omega (arith, c.loop-k.auto.p, c.fill.ensures.len, c.requires.room) in
+    let below : k < length a / 8 = omega (arith, c.loop-k-test.true, c.as_chunks.ensures.front_len) in
     let part : length c.add_rows.new.sums ≡ w = search rules in
-    let eight : (j : ℕ) → j < 8 → at (take (i + 8 - i) (drop i c.args.a.now)) j ≡ at c.args.a.now (i + j) =
-    λ j h. get_or-take (i + 8 - i) (drop i c.args.a.now) j 0 (omega arith) ∙ get_or-drop i c.args.a.now j 0 in (
-      omega arith,
-      left_more (at c.args.a.now) (at c.args.b.now) n i w c.loop-i.p (take (i + 8 - i) (drop i c.args.a.now)) c.padded-padded.result c.add_rows.new.sums
-          (λ k h. get_or_past c.args.b.now k 0 h) (omega arith) (omega (arith, c.loop-i-test.true, c.requires.eights, c.loop-i.invariant.0)) part eight c.padded-padded.ensures.places c.add_rows.ensures c.loop-i.invariant.1,
-    )
+    let chunk = get_or c.as_chunks.result.0.now k [] in
+    subst (λ i. Left (at a) (at b) i (put_mid (8 * k) w p c.add_rows.new.sums)) (omega arith)
+    (left_more (at a) (at b) n (8 * k) w p chunk c.padded-padded.result c.add_rows.new.sums
+    (λ j h. get_or_past b j 0 h) (omega arith) (omega (arith, long, below, c.requires.eights, c.requires.alike)) part
+    (λ j h. ap (λ xs. at (get_or xs k []) j) c.as_chunks.ensures.front ∙ chunk_at (length a / 8) k j a below h)
+    c.padded-padded.ensures c.add_rows.ensures c.loop-k.invariant)
 
 pub returns : goal.returns
-returns c k h = left_all (at c.args.a.now) (at c.args.b.now) c.loop-i.i c.loop-i.p
-    (λ j. get_or_past c.args.a.now (c.loop-i.i + j) 0 (omega (arith, c.requires.alike, c.loop-i-test.false))) c.loop-i.invariant.1 k
+returns c k h = left_all (at c.args.a.now) (at c.args.b.now) (8 * c.loop-k.k) c.loop-k.p
+    (λ j. get_or_past c.args.a.now (8 * c.loop-k.k + j) 0 (omega (arith, c.requires.alike, c.requires.eights, c.as_chunks.ensures.front_len, c.loop-k-test.false))) c.loop-k.invariant k

@@ -1,17 +1,22 @@
 -- What is left of the middle is added half way.
-use Rattle.std.proofs.Common.{◌≡◌, ◌+◌, ◌-◌, ◌*◌, ◌/◌, length, take, drop, refl, ◌∙◌, arith, rules}
-use Rattle.std.proofs.lemmas.List.{get_or-take, get_or-drop}
+use Rattle.std.proofs.Common.{◌≡◌, ◌+◌, ◌-◌, ◌/◌, ◌%◌, length, arith, rules}
+use Rattle.poly.specs.Lists.{at}
 use Rattle.poly.proofs.Halves.{joined}
 use Rattle.poly.proofs.lanes.join.Goals as goal
 
 pub returns : goal.returns
 returns c =
     let p = c.args.p.now in
-    let n = length c.args.middle.now in
-    let h = n / 2 in
-    let part : length c.add.new.sums ≡ h + n - h = search rules in
-    let left : length c.take_away.new.sums ≡ n = search rules in
-    joined n h (h + n - h) p (take (n - 0) p) (take (2 * n - n) (drop n p)) c.args.middle.now c.take_away.new.sums c.add.new.sums
-    refl (omega arith) (omega (arith, c.requires)) part refl left
-    (λ k z. get_or-take (n - 0) p k 0 (omega arith)) (λ k z. get_or-take (2 * n - n) (drop n p) k 0 (omega arith) ∙ get_or-drop n p k 0)
-    c.take_away.ensures c.add.ensures
+    let m = c.args.middle.now in
+    let l = c.put_each.new.xs in
+    let s = c.put_each-2.new.xs in
+    let h = length m / 2 in
+    let w = h + length m - h in
+    let part : length s ≡ w = search rules in
+    let left : length l ≡ length m = search rules in
+    joined (length m) w p m l s
+    (omega arith) (omega (arith, c.requires)) part (omega arith) left
+    (λ k z. let taken : (at l k + at c.split_at.result.0.now k + at c.split_at.result.1.now k) % 65536 ≡ at m k % 65536 =
+    search (rules, c.put_each.ensures k (omega (arith, left))) in
+    omega (arith, taken, c.split_at.ensures.by_index.1 k 0 z, c.split_at.ensures.by_index.2 k 0))
+    (λ k z. search (rules, c.put_each-2.ensures k z))
