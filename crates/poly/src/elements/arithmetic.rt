@@ -5,17 +5,11 @@ ghost use Rattle.poly.specs.Lists.{at};
 ghost use Rattle.poly.specs.Modulus.{modulus};
 
 use super::Poly;
+use kinds::Kind;
 use kinds::words::word_at;
 use std::array;
 
 impl<const N: usize, const M: u16> Poly<N, M> {
-    // The modulus of the coefficients.
-    pub(super) fn modulus() -> u32
-        ensures { result ≡ modulus M }
-    {
-        u32::from(M.max(1))
-    }
-
     // The element whose coefficient of X^i is f(i), taken modulo M: where f answers as d does, the polynomial of d.
     pub(super) fn from_fn<F: Fn(usize) -> u32>(f: F) -> Self
         requires { (i : ℕ) → i < N → F.pre f i }
@@ -26,7 +20,7 @@ impl<const N: usize, const M: u16> Poly<N, M> {
                 |i| -> u16
                     requires { F.pre f i }
                     ensures { (c : ℕ) × F.post f i c × (result ≡ c % modulus M) }
-                { (f(i) % Self::modulus()) as u16 },
+                { (f(i) % Self::LIMIT) as u16 },
             ),
         }
     }
@@ -42,7 +36,7 @@ impl<const N: usize, const M: u16> Poly<N, M> {
     pub(super) fn difference(&self, other: &Self) -> Self
         ensures { result ≡ poly N M (difference_at self.now other.now) }
     {
-        let m = Self::modulus();
+        let m = Self::LIMIT;
         let (x, y) = (self.coeffs.as_slice(), other.coeffs.as_slice());
         Self::from_fn(|i| u32::from(x[i]) + (m - u32::from(y[i])))
     }

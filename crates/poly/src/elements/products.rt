@@ -8,6 +8,7 @@ ghost use Rattle.poly.specs.Quotient.{Quotient};
 use super::Poly;
 use crate::lanes::{PRODUCT, put_product};
 use crate::served::Served;
+use kinds::Kind;
 
 impl<const N: usize, const M: u16> Poly<N, M>
 where
@@ -38,7 +39,7 @@ where
         ensures { result ≡ poly N M (folded_at N M sums.now) }
     {
         let high = &sums[N + 1..];
-        let top = Self::modulus() - u32::from(sums[N]) % Self::modulus();
+        let top = Self::LIMIT - u32::from(sums[N]) % Self::LIMIT;
         Self::from_fn(|i| u32::from(sums[i].wrapping_add(high[i])) + top)
     }
 }
