@@ -93,7 +93,7 @@ impl fmt::Display for Refusal {
     fn fmt<W: fmt::Write>(&self, f: &mut fmt::Formatter<W>) -> fmt::Result {
         let number = self.number();
         let text = self.text();
-        match *self {
+        match self {
             Refusal::CoefficientTooLarge { element, exponent } => {
                 write!(
                     f,
