@@ -45,8 +45,7 @@ pub fn word_at(words: &[u16], place: usize) -> u16
 fn judge<K: Kind>(words: &[u16], m: usize) -> Result<(), Refusal>
     ensures { Judged K.coding m words.now result }
 {
-    let count = m.checked_mul(K::WORDS).ok_or(Refusal::WordCount)?;
-    if words.len() != count {
+    if m.checked_mul(K::WORDS) != Some(words.len()) {
         return Err(Refusal::WordCount);
     }
     match words.iter().position(|word| u32::from(*word) >= K::LIMIT) {
