@@ -67,8 +67,8 @@ fn put<K: Kind>(x: &K, out: &mut [u16])
     }
 }
 
-// Writes the elements of readable words. An adapter of `iter_mut`, as a `zip` with `chunks_exact`, leaves nothing known
-// of what was written, and `chunks_exact` takes no 0, which `WORDS` may be.
+// Writes the elements of readable words.
+// No `zip` with `chunks_exact`: behind an adapter of `iter_mut` no proof knows what was written, and `WORDS` may be 0.
 fn fill<K: Kind>(words: &[u16], list: &mut [K])
     requires { Readable K.coding (length list.old) words.now }
     ensures { flat_map K.coding.words list.new ≡ words.now }
