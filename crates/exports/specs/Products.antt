@@ -1,9 +1,10 @@
 -- The product of two elements that come as words and goes out as words. Assumes nothing.
-use Rattle.std.specs.Prelude.{◌≡◌, ℕ, ◌≢◌, ◌⊎◌, List, [], length, Ok, Err, Result}
+use Rattle.std.specs.Prelude.{◌≡◌, ℕ, ◌≢◌, ◌⊎◌, List, length, Ok, Err, Result}
 use Rattle.kinds.specs.Refusals.{number}
 use Rattle.kinds.specs.Ring.{Ops}
 use Rattle.kinds.specs.Words.{Coding, Unread}
 use Rattle.kinds.specs.declared.refusals.Refusal.{Refusal}
+use Rattle.kinds.specs.declared.refusals.Refusal.TheVariants.{WordCount, BufferLength}
 use Rattle.poly.specs.Elements.{ops, coding}
 
 -- these are the words of an element
@@ -14,12 +15,12 @@ Read {M} C ws = (x : M) × (C.words x ≡ ws)
 abbrev pub Misread : {M : Type 0} → Coding M → List ℕ → Refusal → Type 0
 Misread C ws e = Unread C 1 ws e
 
--- Why there is no product: either count of words is wrong (1), or else a word is too large (2), or else the buffer has the wrong length (8).
+-- Why there is no product: either count of words is wrong, or else a word is too large, or else the buffer has the wrong length.
 abbrev pub NoProduct : {M : Type 0} → Coding M → List ℕ → List ℕ → List ℕ → Refusal → Type 0
 NoProduct C xs ys before e =
-    ((number e ≡ (1, [])) × ((length xs ≢ C.width) ⊎ (length ys ≢ C.width)))
+    ((e ≡ WordCount) × ((length xs ≢ C.width) ⊎ (length ys ≢ C.width)))
     ⊎ ((length xs ≡ C.width) × (length ys ≡ C.width) × (Misread C xs e ⊎ Misread C ys e))
-    ⊎ (Read C xs × Read C ys × (number e ≡ (8, [])) × (length before ≢ C.width))
+    ⊎ (Read C xs × Read C ys × (e ≡ BufferLength) × (length before ≢ C.width))
 
 -- The buffer holds exactly the words of the product of the elements with these words.
 pub record ProductOf {M : Type 0} (R : Ops M) (C : Coding M) (xs ys before after : List ℕ) : Type 0 where
@@ -38,7 +39,7 @@ Multiplies R C xs ys before after (Err e) = NoProduct C xs ys before e × (after
 -- 0 where all went well, or the refusal's number
 abbrev pub code : Result (Unit {0}) Refusal → ℕ
 code (Ok u) = 0
-code (Err e) = (number e).0
+code (Err e) = number e
 
 -- What multiplying answers as a number.
 abbrev pub Answers : {M : Type 0} → Ops M → Coding M → List ℕ → List ℕ → List ℕ → List ℕ → ℕ → Type 0

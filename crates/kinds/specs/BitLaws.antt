@@ -1,6 +1,6 @@
 -- That kind W keeps its laws. Assumes nothing.
-use Rattle.std.specs.Prelude.{◌≡◌, ℕ, ◌+◌, ◌%◌, ◌^◌, ◌<◌, List, [], ◌∷◌, bit_and, bit_xor, min, slice_index, refl}
-use Rattle.std.proofs.Common.{ap, ◌∙◌, mod-eq_of_lt, arith}
+use Rattle.std.specs.Prelude.{◌≡◌, ℕ, zero, suc, ◌+◌, ◌*◌, ◌%◌, ◌^◌, ◌<◌, List, [], ◌∷◌, bit_and, bit_xor, min, slice_index, refl}
+use Rattle.std.proofs.Common.{sym, ap, ap₂, ◌∙◌, mod-eq_of_lt, arith}
 use mathlib.Core.HLevel.{is_prop→PathP}
 use Rattle.std.proofs.Math.Bridge.{le_prop}
 use Rattle.std.proofs.lemmas.Nat.{and_assoc, and_comm, and_mask, xor_comm, xor_lt}
@@ -32,16 +32,27 @@ and_xor a b c =
     one_bit x y z p q r = omega arith
 
 xor_twice : (x y : W) → xor (xor x y) y ≡ x
-xor_twice x y = same_bits _ _ (grind (arith, xor_bits, xor_assoc, xor_self, xor_zero_r))
+xor_twice x y =
+    same_bits _ _ (xor_bits (xor x y) y ∙ ap (λ b. bit_xor b y.bits) (xor_bits x y)
+    ∙ xor_assoc x.bits y.bits y.bits ∙ ap (bit_xor x.bits) (xor_self y.bits) ∙ xor_zero_r x.bits)
 
 xor_grouped : (x y z : W) → xor (xor x y) z ≡ xor x (xor y z)
-xor_grouped x y z = same_bits _ _ (grind (arith, xor_bits, xor_assoc))
+xor_grouped x y z =
+    same_bits _ _ (xor_bits (xor x y) z ∙ ap (λ b. bit_xor b z.bits) (xor_bits x y)
+    ∙ xor_assoc x.bits y.bits z.bits
+    ∙ sym (xor_bits x (xor y z) ∙ ap (bit_xor x.bits) (xor_bits y z)))
 
 and_grouped : (x y z : W) → and (and x y) z ≡ and x (and y z)
-and_grouped x y z = same_bits _ _ (grind (arith, and_bits, and_assoc))
+and_grouped x y z =
+    same_bits _ _ (and_bits (and x y) z ∙ ap (λ b. bit_and b z.bits) (and_bits x y)
+    ∙ and_assoc z.bits x.bits y.bits
+    ∙ sym (and_bits x (and y z) ∙ ap (bit_and x.bits) (and_bits y z)))
 
 and_over_xor : (x y z : W) → and x (xor y z) ≡ xor (and x y) (and x z)
-and_over_xor x y z = same_bits _ _ (grind (arith, and_bits, xor_bits, and_xor))
+and_over_xor x y z =
+    same_bits _ _ (and_bits x (xor y z) ∙ ap (bit_and x.bits) (xor_bits y z)
+    ∙ and_xor x.bits y.bits z.bits
+    ∙ sym (xor_bits (and x y) (and x z) ∙ ap₂ bit_xor (and_bits x y) (and_bits x z)))
 
 pub laws : Laws ops
 laws = record {
@@ -57,7 +68,9 @@ laws = record {
 }
 
 halves_small : (x : W) (i : ℕ) → i < 2 → slice_index (halves x) i < 65536
-halves_small x i h = let f = x.fits in grind arith
+halves_small x zero h = omega arith
+halves_small x (suc zero) h = let f = x.fits in omega arith
+halves_small x (suc (suc i)) h = absurd (omega arith)
 
 -- two halves are put together and taken apart again
 halves_element : (ws : List ℕ) → Readable coding 1 ws → halves (coding.element ws) ≡ ws
@@ -66,7 +79,8 @@ halves_element (a ∷ []) h = absurd (omega (arith, h.counted))
 halves_element (a ∷ b ∷ []) h =
     let low : a < 65536 = h.small 0 (omega arith) in
     let high : b < 65536 = h.small 1 (omega arith) in
-    grind (arith, mod-eq_of_lt)
+    let whole : (a + 65536 * b) % 2 ^ 32 ≡ a + 65536 * b = mod-eq_of_lt (omega arith) in
+    ap₂ (λ x y. x ∷ y ∷ []) (omega arith) (omega arith)
 halves_element (a ∷ b ∷ c ∷ ws) h = absurd (omega (arith, h.counted))
 
 pub codes : Codes coding

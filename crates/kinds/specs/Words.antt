@@ -1,8 +1,8 @@
 -- Elements as words of 16 bits: what reading and showing answer, and what they leave. Assumes nothing.
-use Rattle.std.specs.Prelude.{◌≡◌, ℕ, ◌+◌, ◌*◌, ◌<◌, ◌≤◌, ◌≢◌, ◌⊎◌, List, [], ◌∷◌, length, Ok, Err, Result, slice_index}
+use Rattle.std.specs.Prelude.{◌≡◌, ℕ, ◌+◌, ◌*◌, ◌<◌, ◌≤◌, ◌≢◌, ◌⊎◌, List, length, Ok, Err, Result, slice_index}
 use Rattle.std.specs.List.{flat_map}
-use Rattle.kinds.specs.Refusals.{number}
 use Rattle.kinds.specs.declared.refusals.Refusal.{Refusal}
+use Rattle.kinds.specs.declared.refusals.Refusal.TheVariants.{WordCount, CoefficientTooLarge, BufferLength}
 
 -- How a kind writes an element as words, and which element it takes words for. A word of an element is below limit.
 pub record Coding (M : Type 0) : Type 0 where
@@ -29,11 +29,11 @@ pub record TooLarge {M : Type 0} (C : Coding M) (m : ℕ) (ws : List ℕ) (eleme
   pub exponent_within : exponent < C.width
   pub above : C.limit ≤ slice_index ws (element * C.width + exponent)
 
--- why m elements are not read from words, by the refusal's number and values
+-- why m elements are not read from words
 abbrev pub Unread : {M : Type 0} → Coding M → ℕ → List ℕ → Refusal → Type 0
 Unread C m ws e =
-    ((number e ≡ (1, [])) × (length ws ≢ m * C.width))
-    ⊎ ((i : ℕ) × (p : ℕ) × (number e ≡ (2, i ∷ p ∷ [])) × TooLarge C m ws i p)
+    ((e ≡ WordCount) × (length ws ≢ m * C.width))
+    ⊎ ((i : ℕ) × (p : ℕ) × (e ≡ CoefficientTooLarge i p) × TooLarge C m ws i p)
 
 -- what is answered of words before any of them is used
 abbrev pub Judged : {M : Type 0} → Coding M → ℕ → List ℕ → Result (Unit {0}) Refusal → Type 0
@@ -54,4 +54,4 @@ Lists C ws before after (Err e) = Unread C (length before) ws e × (after ≡ be
 -- What showing n values in a buffer answers, and what the buffer holds before and after.
 abbrev pub Shows : {X : Type 0} → ℕ → List X → List X → List X → Result (Unit {0}) Refusal → Type 0
 Shows n shown before after (Ok u) = (length before ≡ n) × (after ≡ shown)
-Shows n shown before after (Err e) = (number e ≡ (8, [])) × (length before ≢ n) × (after ≡ before)
+Shows n shown before after (Err e) = (e ≡ BufferLength) × (length before ≢ n) × (after ≡ before)

@@ -37,7 +37,7 @@ pub enum Refusal {
 impl Refusal {
     // The number that the refusal is known by: a view of it, for the C interface and for what is printed.
     pub fn number(&self) -> u8
-        ensures { result ≡ (number self.now).0 }
+        ensures { result ≡ number self.now }
     {
         match self {
             Refusal::WordCount => 1,
@@ -93,7 +93,7 @@ impl fmt::Display for Refusal {
     fn fmt<W: fmt::Write>(&self, f: &mut fmt::Formatter<W>) -> fmt::Result {
         let number = self.number();
         let text = self.text();
-        match *self {
+        match self {
             Refusal::CoefficientTooLarge { element, exponent } => {
                 write!(
                     f,

@@ -45,8 +45,7 @@ pub fn word_at(words: &[u16], place: usize) -> u16
 fn judge<K: Kind>(words: &[u16], m: usize) -> Result<(), Refusal>
     ensures { Judged K.coding m words.now result }
 {
-    let count = m.checked_mul(K::WORDS).ok_or(Refusal::WordCount)?;
-    if words.len() != count {
+    if m.checked_mul(K::WORDS) != Some(words.len()) {
         return Err(Refusal::WordCount);
     }
     match words.iter().position(|word| u32::from(*word) >= K::LIMIT) {
@@ -68,8 +67,8 @@ fn put<K: Kind>(x: &K, out: &mut [u16])
     }
 }
 
-// Writes the elements of readable words. An adapter of `iter_mut`, as a `zip` with `chunks_exact`, leaves nothing known
-// of what was written, and `chunks_exact` takes no 0, which `WORDS` may be.
+// Writes the elements of readable words.
+// No `zip` with `chunks_exact`: behind an adapter of `iter_mut` no proof knows what was written, and `WORDS` may be 0.
 fn fill<K: Kind>(words: &[u16], list: &mut [K])
     requires { Readable K.coding (length list.old) words.now }
     ensures { flat_map K.coding.words list.new ≡ words.now }

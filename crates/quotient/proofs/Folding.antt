@@ -2,16 +2,12 @@
 use Rattle.std.proofs.Common.{◌≡◌, ℕ, zero, suc, ◌+◌, ◌%◌, ◌<◌, ◌≤◌, Bool, true, false, cond, eqb, List, [], ◌∷◌, ◌++◌, length, get_or, take, drop, sym, refl, ap, ◌∙◌, ap₂, ⊎_elim, add-zero, mod-lt, mod-eq_of_lt, add_comm, zero-add, arith}
 use native.Mathlib.Nat.{add-mod_right, suc-mod, mod_self}
 use Rattle.std.proofs.lemmas.List.{get_or_past, get_or-take, get_or-drop, length-take-le, length-drop, take-append-drop}
-use Rattle.std.proofs.lemmas.Bool.{cases_lt, cases_eq, eq-eqb, ne_eqb}
+use Rattle.std.proofs.lemmas.Bool.{cases_lt, eq-eqb, ne_eqb}
+use Rattle.std.proofs.lemmas.Bool.Decides.{nat_tests}
 use Rattle.kinds.specs.Ring.{Ops, Laws}
 use Rattle.quotient.specs.Polynomials.{plus}
 use Rattle.quotient.specs.Reduction.{folded_from, folded}
 use Rattle.quotient.proofs.Rings.{zero_plus, swap}
-
--- two tests are the same where each follows from the other
-same_test : (a b c d : ℕ) → (a ≡ b → c ≡ d) → (c ≡ d → a ≡ b) → eqb a b ≡ eqb c d
-same_test a b c d to from =
-    ⊎_elim (λ e. eq-eqb a b e ∙ sym (eq-eqb c d (to e))) (λ e. ne_eqb a b e ∙ sym (ne_eqb c d (λ z. e (from z)))) (cases_eq a b)
 
 -- one more, modulo l = n + 1: from n it goes to 0
 next_mod : (n j : ℕ) → j % suc n < n → suc j % suc n ≡ suc (j % suc n)
@@ -23,18 +19,13 @@ wrap_mod n j h = suc-mod j (suc n) ∙ ap (λ r. suc r % suc n) h ∙ mod_self (
 next_test : (n j i : ℕ) → i < n → eqb (suc j % suc n) (suc i) ≡ eqb (j % suc n) i
 next_test n j i h =
     let small : j % suc n < suc n = mod-lt j (omega arith) in
-    ⊎_elim (λ e. let s = wrap_mod n j e in same_test _ _ _ _ (λ z. absurd (omega arith)) (λ z. absurd (omega arith)))
-    (λ e. let s = next_mod n j (lower n (j % suc n) small e) in same_test _ _ _ _ (λ z. omega arith) (λ z. omega arith))
-    (cases_eq (j % suc n) n)
-  where
-    lower : (n r : ℕ) → r < suc n → (r ≡ n → ⊥) → r < n
-    lower n r h e = ⊎_elim (λ z. z) (λ z. absurd (e (omega arith))) (cases_lt r n)
+    ⊎_elim (λ z. let s = next_mod n j z in grind (arith, nat_tests)) (λ z. let s = wrap_mod n j (omega arith) in grind (arith, nat_tests))
+    (cases_lt (j % suc n) n)
 
 wrap_test : (n j : ℕ) → eqb (suc j % suc n) 0 ≡ eqb (j % suc n) n
 wrap_test n j =
     let small : j % suc n < suc n = mod-lt j (omega arith) in
-    ⊎_elim (λ h. let s = next_mod n j h in same_test _ _ _ _ (λ z. absurd (omega arith)) (λ z. absurd (omega arith)))
-    (λ h. let s = wrap_mod n j (omega arith) in same_test _ _ _ _ (λ z. omega arith) (λ z. s))
+    ⊎_elim (λ z. let s = next_mod n j z in grind (arith, nat_tests)) (λ z. let s = wrap_mod n j (omega arith) in grind (arith, nat_tests))
     (cases_lt (j % suc n) n)
 
 module _ {A : Type 0} (R : Ops A) where

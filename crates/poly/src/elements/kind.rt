@@ -20,6 +20,7 @@ impl<const N: usize, const M: u16> Kind for Poly<N, M> {
 
     const WORDS: usize = N;
 
+    // The greater of M and 1, without `max`: a constant's value calls no function.
     const LIMIT: u32 = if M == 0 { 1 } else { M as u32 };
 
     ghost WORDS = { N };
