@@ -82,7 +82,7 @@ impl Work for Row<'_> {
 
 // The result in the kind K.
 fn worked<K: Ring + Clone>(heap: Global, question: &Question) -> Result<String, Trouble>
-    ensures { UnlessMemory (Works K.Kind.ops K.Kind.coding (contents question.now)) result }
+    ensures { UnlessMemory (Works K.ops K.coding (contents question.now)) result }
 {
     let result: K = computed(heap, question)?;
     let words = shown(heap, &result)?;

@@ -12,7 +12,7 @@ use std::alloc::Global;
 
 // The result that is asked for, in the kind K.
 pub(crate) fn computed<K: Ring + Clone>(heap: Global, question: &Question) -> Result<K, Trouble>
-    ensures { Computed K.Kind.ops K.Kind.coding (contents question.now) result }
+    ensures { Computed K.ops K.coding (contents question.now) result }
 {
     let result = match question.operation {
         Operation::Times => {
@@ -27,7 +27,7 @@ pub(crate) fn computed<K: Ring + Clone>(heap: Global, question: &Question) -> Re
 // The product of the two elements with these words, which it reads into the list.
 fn product<K: Ring>(words: &[u16], operands: &mut [K]) -> Result<K, Refusal>
     requires { length operands.old ≡ 2 }
-    ensures { Computes K.Kind.ops K.Kind.coding Times words.now result }
+    ensures { Computes K.ops K.coding Times words.now result }
 {
     read_list(words, operands)?;
     Ok(operands[0].times(&operands[1]))

@@ -25,7 +25,7 @@ pub extern "C" fn fordkettle_t821_times(x: &[u16], y: &[u16], out: &mut [u16]) -
 
 // Writes the words of the product of the elements with these words.
 fn product<K: Ring>(x: &[u16], y: &[u16], out: &mut [u16]) -> Result<(), Refusal>
-    ensures { Multiplies K.Kind.ops K.Kind.coding x.now y.now out.old out.new result }
+    ensures { Multiplies K.ops K.coding x.now y.now out.old out.new result }
 {
     if x.len() != K::WORDS || y.len() != K::WORDS {
         return Err(Refusal::WordCount);

@@ -22,7 +22,7 @@ pub trait Work {
     ghost in_bits: { Self → Self.Outcome → Type 0 };
 
     fn polynomials<P: Centred + Ring + Clone>(self) -> Self::Outcome
-        ensures { in_polynomials self P P.Kind.ops P.Kind.coding P.Centred.numbers result };
+        ensures { in_polynomials self P P.ops P.coding P.numbers result };
 
     fn bits(self) -> Self::Outcome
         ensures { in_bits self result };

@@ -52,7 +52,7 @@ impl Work for Report<'_> {
 
 // The report of a sum of polynomials.
 fn polynomial<P: Centred + Clone>(heap: Global, request: &Request) -> Result<String, Trouble>
-    ensures { Polynomial P.Kind.ops P.Kind.coding P.Centred.numbers request.now.header request.now.words.items result }
+    ensures { Polynomial P.ops P.coding P.numbers request.now.header request.now.words.items result }
 {
     let sum: P = recombined(heap, &request.words, request.header.shares)?;
     let mut text = element_lines(heap, request.header, &sum)?;
@@ -62,7 +62,7 @@ fn polynomial<P: Centred + Clone>(heap: Global, request: &Request) -> Result<Str
 }
 
 fn centred_numbers<P: Centred>(heap: Global, x: &P) -> Result<Vec<i16>, AllocError>
-    ensures { IfOk result (λ v. v.items ≡ P.Centred.numbers x.now) }
+    ensures { IfOk result (λ v. v.items ≡ P.numbers x.now) }
 {
     let mut numbers = vec![in heap; 0; P::WORDS]?;
     match x.centred(&mut numbers) {
@@ -73,7 +73,7 @@ fn centred_numbers<P: Centred>(heap: Global, x: &P) -> Result<Vec<i16>, AllocErr
 
 // The report of a sum in a kind whose elements have words alone.
 fn bits<K: Kind + Clone>(heap: Global, request: &Request) -> Result<String, Trouble>
-    ensures { Bits K.Kind.ops K.Kind.coding request.now.header request.now.words.items result }
+    ensures { Bits K.ops K.coding request.now.header request.now.words.items result }
 {
     let sum: K = recombined(heap, &request.words, request.header.shares)?;
     Ok(element_lines(heap, request.header, &sum)?)

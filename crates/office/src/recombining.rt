@@ -12,7 +12,7 @@ pub(crate) fn recombined<K: Kind + Clone>(
     words: &[u16],
     shares: usize,
 ) -> Result<K, Trouble>
-    ensures { Recombined K.Kind.ops K.Kind.coding shares words.now result }
+    ensures { Recombined K.ops K.coding shares words.now result }
 {
     let mut list = vec![in heap; K::zero(); shares]?;
     Ok(summed(words, &mut list)?)
@@ -20,7 +20,7 @@ pub(crate) fn recombined<K: Kind + Clone>(
 
 // The sum of the elements with these words, which it reads into the list.
 fn summed<K: Kind>(words: &[u16], list: &mut [K]) -> Result<K, Refusal>
-    ensures { Summed K.Kind.ops K.Kind.coding (length list.old) words.now result }
+    ensures { Summed K.ops K.coding (length list.old) words.now result }
 {
     read_list(words, list)?;
     Ok(recombine(list))

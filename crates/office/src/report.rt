@@ -14,7 +14,7 @@ pub(crate) fn element_lines<K: Kind>(
     header: Header,
     sum: &K,
 ) -> Result<String, AllocError>
-    ensures { IfOk result (λ t. string_bytes t ≡ element_lines header (K.Kind.coding.words sum.now)) }
+    ensures { IfOk result (λ t. string_bytes t ≡ element_lines header (K.coding.words sum.now)) }
 {
     let words = shown(heap, sum)?;
     let mut text = heading(heap, header)?;

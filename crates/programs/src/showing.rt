@@ -6,7 +6,7 @@ use std::alloc::{AllocError, Global};
 
 // The element's words.
 pub fn shown<K: Kind>(heap: Global, x: &K) -> Result<Vec<u16>, AllocError>
-    ensures { IfOk result (λ v. v.items ≡ K.Kind.coding.words x.now) }
+    ensures { IfOk result (λ v. v.items ≡ K.coding.words x.now) }
 {
     let mut words = vec![in heap; 0; K::WORDS]?;
     match show(x, &mut words) {

@@ -25,7 +25,7 @@ pub trait Centred: Kind {
 
     // Writes the centred numbers of the coefficients into the buffer, constant term first.
     fn centred(&self, out: &mut [i16]) -> Result<(), Refusal>
-        ensures { Shows Self.Kind.coding.width (numbers self.now) out.old out.new result };
+        ensures { Shows Self.coding.width (numbers self.now) out.old out.new result };
 }
 
 impl<const N: usize, const M: u16> Centred for Poly<N, M> {
