@@ -1,4 +1,5 @@
 // The functions of the static library. From C a slice is a pointer and a length, and the buffer overlaps no other slice.
+// C knows no type parameter and no enum with values: so there is a function for each size, and a number for each answer.
 #![tactic(auto)]
 
 ghost use Rattle.std.specs.Prelude.{◌≡◌, ◌-◌, ◌^◌};

@@ -1,2 +1,0 @@
--- Lemmas for the proofs of `exports`.
-pub mod Multiplying

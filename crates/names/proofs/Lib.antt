@@ -1,1 +1,0 @@
--- Lemmas for the proofs of `names`, and for those who compare bytes as it does.
