@@ -30,10 +30,6 @@ behind_behind text first (Ok rest) = ap Ok (sym (append_assoc text first rest))
 behind_behind text first (Err t) = refl
 
 module _ (all left : List (List Word)) (text : List ℕ) where
-  pub run_none : Run all [] all
-  run_none (Ok more) so = so
-  run_none (Err t) so = so
-
   -- the next line
   module _ (ts : List Word) (lines : List (List Word)) (next : left ≡ ts ∷ lines) (so : Run all text left) where
     pub run_more : (first after : List ℕ) → after ≡ text ++ first → Line ts (Ok first) → Run all after lines

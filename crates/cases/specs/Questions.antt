@@ -3,7 +3,7 @@ use Rattle.std.specs.Prelude.{◌≡◌, ℕ, cond, ◌⊎◌, List, [], ◌∷�
 use Rattle.std.specs.Str.{bytes_eq}
 use Rattle.names.specs.Names.{name_of}
 use Rattle.names.specs.declared.naming.Name.{Name}
-use Rattle.text.specs.Readings.{numbers_of}
+use Rattle.text.specs.Readings.{words_of}
 use Rattle.text.specs.Tokens.{Word}
 use Rattle.text.specs.declared.faults.Fault.{Fault}
 use Rattle.cases.specs.declared.operations.Operation.{Operation}
@@ -31,7 +31,7 @@ with_words k name op (Err f) = Err (BadText f)
 -- a case with the operation that the token w names, and the words behind it
 abbrev pub with_operation : Word → Name → Word → Option Operation → List Word → Result Case Trouble
 with_operation k name w None ws = Err (UnknownOperation w.offset)
-with_operation k name w (Some op) ws = with_words k name op (numbers_of 65535 ws)
+with_operation k name w (Some op) ws = with_words k name op (words_of ws)
 
 -- a case with the kind that the token k names, with the operation and the words behind it
 abbrev pub with_kind : Word → Option Name → List Word → Result Case Trouble

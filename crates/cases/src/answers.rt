@@ -1,4 +1,4 @@
-// The answer to an input: a line for each case, or what is wrong.
+//! The answer to an input: a line for each case, or what is wrong.
 ghost use Rattle.kinds.specs.Bits.{ops as bit_ops, coding as bit_coding};
 ghost use Rattle.text.specs.Lines.{lines_to_come};
 ghost use Rattle.text.specs.Tokens.{to_come};
@@ -18,7 +18,7 @@ use programs::shown;
 use std::alloc::Global;
 use text::{LineReader, Reader};
 
-// The results of the cases that the input holds, a line for each.
+/// The results of the cases that the input holds, a line for each.
 pub fn answer(heap: Global, input: &[u8]) -> Result<String, Trouble>
     ensures { Answers input.now result }
 {
@@ -54,24 +54,24 @@ fn one(heap: Global, mut line: Reader) -> Result<String, Trouble>
 fn by_name(heap: Global, question: &Question) -> Result<String, Trouble>
     ensures { UnlessMemory (ByName (contents question.now)) result }
 {
-    question.name.run(Row { heap, question })
+    question.name.run(Answering { heap, question })
 }
 
-// The line that a question is answered with.
+// The work of making the line that a question is answered with.
 #[derive(Drop)]
-struct Row<'a> {
+struct Answering<'a> {
     heap: Global,
     question: &'a Question,
 }
 
-impl Work for Row<'_> {
+impl Work for Answering<'_> {
     type Outcome = Result<String, Trouble>;
 
     ghost in_polynomials = { λ w M R C numbers r. UnlessMemory (Works R C (contents w.question.now)) r };
 
     ghost in_bits = { λ w r. UnlessMemory (Works bit_ops bit_coding (contents w.question.now)) r };
 
-    fn polynomials<P: Centred + Ring + Clone>(self) -> Result<String, Trouble> {
+    fn polynomials<P: Centred + Ring>(self) -> Result<String, Trouble> {
         worked::<P>(self.heap, self.question)
     }
 
@@ -81,7 +81,7 @@ impl Work for Row<'_> {
 }
 
 // The result in the kind K.
-fn worked<K: Ring + Clone>(heap: Global, question: &Question) -> Result<String, Trouble>
+fn worked<K: Ring>(heap: Global, question: &Question) -> Result<String, Trouble>
     ensures { UnlessMemory (Works K.ops K.coding (contents question.now)) result }
 {
     let result: K = computed(heap, question)?;

@@ -1,4 +1,4 @@
-// What is wrong, in words for the person who typed the input.
+//! What is wrong, in words for the person who typed the input.
 ghost use Rattle.std.specs.Prelude.{Some};
 ghost use Rattle.cases.specs.Explaining.{message, offset};
 

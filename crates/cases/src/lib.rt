@@ -1,4 +1,4 @@
-// Cases of arithmetic: a line asks for an operation on elements of a kind, and is answered with a line.
+//! Cases of arithmetic: a line asks for an operation on elements of a kind, and is answered with a line.
 #![tactic(auto)]
 
 pub mod answers;

@@ -1,4 +1,4 @@
-// What can be asked for.
+//! What can be asked for.
 ghost use Rattle.std.specs.Prelude.{◌≡◌};
 ghost use Rattle.std.specs.Result.{result_ok};
 ghost use Rattle.cases.specs.Questions.{operation_of};
@@ -8,7 +8,7 @@ pub enum Operation {
     Times,
 }
 
-// No operation has this name.
+/// No operation has this name.
 #[derive(Clone, Copy, PartialEq, Eq, Debug)]
 pub struct UnknownOperation;
 

@@ -1,4 +1,4 @@
-// What a line asks for.
+//! What a line asks for.
 ghost use Rattle.text.specs.Tokens.{word, to_come};
 ghost use Rattle.cases.specs.Questions.{Asked};
 
@@ -8,7 +8,7 @@ use names::Name;
 use std::alloc::Global;
 use text::{Reader, Token, words};
 
-// An operation in a kind, on operands with these words; the line's first token has this offset.
+/// An operation in a kind, on operands with these words; the line's first token has this offset.
 #[derive(Drop)]
 pub struct Question {
     pub at: usize,
@@ -24,9 +24,7 @@ impl Question {
     {
         let at = kind.at;
         let name = Name::try_from(kind.text).map_err(|_| Trouble::UnknownKind { at })?;
-        let Some(token) = rest.token() else {
-            return Err(Trouble::UnknownOperation { at });
-        };
+        let token = rest.token().ok_or(Trouble::UnknownOperation { at })?;
         let operation = Operation::try_from(token.text).map_err(|_| Trouble::UnknownOperation {
             at: token.at,
         })?;

@@ -1,4 +1,4 @@
-// The result of an operation on elements that are given by words.
+//! The result of an operation on elements that are given by words.
 ghost use Rattle.std.specs.Prelude.{◌≡◌, length};
 ghost use Rattle.cases.specs.Questions.{contents};
 ghost use Rattle.cases.specs.Results.{Computes, Computed};
@@ -11,9 +11,10 @@ use kinds::{Kind, Refusal, Ring, read_list};
 use std::alloc::Global;
 
 // The result that is asked for, in the kind K.
-pub(crate) fn computed<K: Ring + Clone>(heap: Global, question: &Question) -> Result<K, Trouble>
+pub(crate) fn computed<K: Ring>(heap: Global, question: &Question) -> Result<K, Trouble>
     ensures { Computed K.ops K.coding (contents question.now) result }
 {
+    // A `match`, since operations are a closed enum with operands of their own; there is one so far.
     let result = match question.operation {
         Operation::Times => {
             let mut operands = vec![in heap; K::zero(); 2]?;

@@ -1,4 +1,4 @@
-// Lines of numbers.
+//! Lines of numbers.
 ghost use Rattle.std.specs.Prelude.{◌≡◌, ◌++◌, IfOk, string_bytes, codes};
 ghost use Rattle.cases.specs.Results.{separated};
 

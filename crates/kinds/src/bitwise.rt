@@ -1,4 +1,4 @@
-// The kind W: one 32-bit number, added and multiplied bit by bit.
+//! The kind W: one 32-bit number, added and multiplied bit by bit.
 ghost use Rattle.std.specs.Prelude.{◌^◌, ◌<◌};
 
 mod kind;

@@ -1,4 +1,4 @@
-// Kinds of element: what they share, refusals and their numbers, words, recombination, and the kind W.
+//! Kinds of element: what they share, refusals and their numbers, words, recombination, and the kind W.
 #![tactic(auto)]
 
 pub mod bitwise;
@@ -11,4 +11,4 @@ pub use bitwise::W;
 pub use refusals::Refusal;
 pub use sums::recombine;
 pub use traits::{Kind, Ring};
-pub use words::{read, read_list, show};
+pub use words::{read, read_list, show, show_each};

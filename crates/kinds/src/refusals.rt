@@ -1,4 +1,4 @@
-// Why something is refused. Each case has a number, which offices and operators know it by.
+//! Why something is refused. Each case has a number, which offices and operators know it by.
 ghost use Rattle.std.specs.Prelude.{◌≡◌, Some};
 ghost use Rattle.kinds.specs.Refusals.{number, words, refusal_text};
 
@@ -6,28 +6,28 @@ use std::fmt;
 
 #[derive(Clone, Copy, PartialEq, Eq, Debug)]
 pub enum Refusal {
-    // The count of words does not match.
+    /// The count of words does not match.
     WordCount,
-    // A coefficient is too large: its element in the list, and its exponent in that.
+    /// A coefficient is too large: its element in the list, and its exponent in that.
     CoefficientTooLarge { element: usize, exponent: usize },
-    // The number of shares is outside 2 to 8.
+    /// The number of shares is outside 2 to 8.
     ShareCount,
-    // The engine already had a cell.
+    /// The engine already had a cell.
     EngineNotEmpty,
     NoSuchHolding,
-    // 64 holdings exist.
+    /// 64 holdings exist.
     TableFull,
     NoSuchPosition,
-    // A buffer for words or centred numbers has the wrong length.
+    /// A buffer for words or centred numbers has the wrong length.
     BufferLength,
-    // Fewer free cells than the whole call needs.
+    /// Fewer free cells than the whole call needs.
     TooFewCells,
-    // Less tape than the whole call needs.
+    /// Less tape than the whole call needs.
     TooLittleTape,
     NoSecretLeft,
     NoPublicLeft,
     MaskedValueNotInvertible,
-    // An unwritten cell, or a wrong count of cells.
+    /// An unwritten cell, or a wrong count of cells.
     NoSuchCell,
     NoFreeCell,
     ListAtEnd,
@@ -35,7 +35,7 @@ pub enum Refusal {
 }
 
 impl Refusal {
-    // The number that the refusal is known by: a view of it, for the C interface and for what is printed.
+    /// The number that the refusal is known by: a view of it, for the C interface and for what is printed.
     pub fn number(&self) -> u8
         ensures { result ≡ number self.now }
     {

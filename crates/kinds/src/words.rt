@@ -1,12 +1,12 @@
-// Elements as words of 16 bits.
-ghost use Rattle.std.specs.Prelude.{◌≡◌, length, slice_index};
+//! Elements as words of 16 bits.
+ghost use Rattle.std.specs.Prelude.{◌≡◌, ℕ, ◌<◌, List, length, get_or, slice_index};
 ghost use Rattle.std.specs.List.{flat_map};
 ghost use Rattle.kinds.specs.Words.{Readable, Judged, Reads, Lists, Shows};
 
 use crate::refusals::Refusal;
 use crate::traits::Kind;
 
-// The element whose words these are.
+/// The element whose words these are.
 pub fn read<K: Kind>(words: &[u16]) -> Result<K, Refusal>
     ensures { Reads K.coding words.now result }
 {
@@ -14,18 +14,20 @@ pub fn read<K: Kind>(words: &[u16]) -> Result<K, Refusal>
     Ok(K::from_words(words))
 }
 
-// Writes the element's words into the buffer.
+/// Writes the element's words into the buffer.
 pub fn show<K: Kind>(x: &K, out: &mut [u16]) -> Result<(), Refusal>
     ensures { Shows K.coding.width (K.coding.words x.now) out.old out.new result }
 {
-    if out.len() != K::WORDS {
-        return Err(Refusal::BufferLength);
-    }
-    put(x, out);
-    Ok(())
+    show_each(
+        K::WORDS,
+        out,
+        |i| -> u16
+            ensures { result ≡ slice_index (K.coding.words x.entry.now) i }
+        { x.word(i) },
+    )
 }
 
-// Reads as many elements as the list has. All words are judged before the first element is written.
+/// Reads as many elements as the list has. All words are judged before the first element is written.
 pub fn read_list<K: Kind>(words: &[u16], list: &mut [K]) -> Result<(), Refusal>
     ensures { Lists K.coding words.now list.old list.new result }
 {
@@ -34,7 +36,7 @@ pub fn read_list<K: Kind>(words: &[u16], list: &mut [K]) -> Result<(), Refusal>
     Ok(())
 }
 
-// The word at a place, and 0 past the end.
+/// The word at a place, and 0 past the end.
 pub fn word_at(words: &[u16], place: usize) -> u16
     ensures { result ≡ slice_index words.now place }
 {
@@ -57,18 +59,23 @@ fn judge<K: Kind>(words: &[u16], m: usize) -> Result<(), Refusal>
     }
 }
 
-// Writes the element's words into a buffer that is as long.
-fn put<K: Kind>(x: &K, out: &mut [u16])
-    requires { length out.old ≡ K.coding.width }
-    ensures { out.new ≡ K.coding.words x.now }
+/// Writes n values into the buffer, the one at place i as f(i) gives it.
+pub fn show_each<T: Copy, F: Fn(usize) -> T>(n: usize, out: &mut [T], f: F) -> Result<(), Refusal>
+    requires { (i : ℕ) → i < n → F.pre f i }
+    ensures { (xs : List T) (d : T) → length xs ≡ n → ((i : ℕ) (x : T) → i < n → F.post f i x → x ≡ get_or xs i d)
+        → Shows n xs out.old out.new result }
 {
-    for (i, word) in out.iter_mut().enumerate() {
-        *word = x.word(i);
+    if out.len() != n {
+        return Err(Refusal::BufferLength);
     }
+    for (i, value) in out.iter_mut().enumerate() {
+        *value = f(i);
+    }
+    Ok(())
 }
 
 // Writes the elements of readable words.
-// No `zip` with `chunks_exact`: behind an adapter of `iter_mut` no proof knows what was written, and `WORDS` may be 0.
+// No `zip` with `chunks_exact`: behind `zip` no proof knows what was written, and `WORDS` may be 0.
 fn fill<K: Kind>(words: &[u16], list: &mut [K])
     requires { Readable K.coding (length list.old) words.now }
     ensures { flat_map K.coding.words list.new ≡ words.now }

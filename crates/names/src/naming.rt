@@ -1,4 +1,4 @@
-// The names of the kinds.
+//! The names of the kinds.
 ghost use Rattle.std.specs.Prelude.{◌≡◌, Some};
 ghost use Rattle.std.specs.Result.{result_ok};
 ghost use Rattle.names.specs.Names.{name_text, among, name_of};
@@ -62,7 +62,7 @@ impl fmt::Display for Name {
     }
 }
 
-// No kind that is put together is printed so.
+/// No kind that is put together is printed so.
 #[derive(Clone, Copy, PartialEq, Eq, Debug)]
 pub struct UnknownName;
 

@@ -1,4 +1,4 @@
-// Work in the kind that a name asks for.
+//! Work in the kind that a name asks for.
 ghost use Rattle.std.specs.Prelude.{List, ℤ};
 ghost use Rattle.kinds.specs.Ring.{Ops};
 ghost use Rattle.kinds.specs.Words.{Coding};
@@ -11,7 +11,7 @@ use kinds::{Kind, Ring, W};
 use poly::Centred;
 use poly::sizes::*;
 
-// Work that can be done in every kind: in Q and T it may ask for centred numbers, in W it cannot.
+/// Work that can be done in every kind: in Q and T it may ask for centred numbers, in W it cannot.
 pub trait Work {
     type Outcome;
 
@@ -21,7 +21,7 @@ pub trait Work {
     // What comes of it in W.
     ghost in_bits: { Self → Self.Outcome → Type 0 };
 
-    fn polynomials<P: Centred + Ring + Clone>(self) -> Self::Outcome
+    fn polynomials<P: Centred + Ring>(self) -> Self::Outcome
         ensures { in_polynomials self P P.ops P.coding P.numbers result };
 
     fn bits(self) -> Self::Outcome
@@ -29,7 +29,7 @@ pub trait Work {
 }
 
 impl Name {
-    // Does the work in the kind with this name.
+    /// Does the work in the kind with this name: the one place where a name becomes a type.
     pub fn run<T: Work>(self, work: T) -> T::Outcome
         ensures { by_size self (λ n q. T.in_polynomials work _ (ops n q) (coding n q) centred_numbers result) (T.in_bits work result) }
     {

@@ -3,7 +3,7 @@ use Rattle.std.specs.Prelude.{ℕ, cond, ◌&&◌, List, [], ◌∷◌, codes, S
 use Rattle.std.specs.Str.{bytes_eq}
 use Rattle.names.specs.declared.naming.Name.{Name}
 use Rattle.names.specs.declared.naming.Name.TheVariants.{Q3, Q509, Q677, Q701, Q821, T3, T509, T677, T701, T821, W}
-use Rattle.text.specs.Readings.{numbers_of}
+use Rattle.text.specs.Readings.{words_of}
 use Rattle.text.specs.Tokens.{Word}
 use Rattle.text.specs.declared.faults.Fault.{Fault}
 use Rattle.office.specs.declared.headers.Header.{Header}
@@ -74,4 +74,4 @@ from_numbers w (Err f) = Err (BadText f)
 -- what the tokens of the first line ask for
 abbrev pub header : List Word → Result Header Trouble
 header [] = Err (NoHeader 0)
-header (w ∷ ws) = from_numbers w (numbers_of 65535 ws)
+header (w ∷ ws) = from_numbers w (words_of ws)

@@ -1,7 +1,7 @@
 -- What is asked for. Assumes nothing.
 use Rattle.std.specs.Prelude.{◌≡◌, ℕ, ◌⊎◌, List, length, Ok, Err, vec_items, Result}
 use Rattle.text.specs.Lines.{first_line}
-use Rattle.text.specs.Readings.{numbers_of}
+use Rattle.text.specs.Readings.{words_of}
 use Rattle.text.specs.Tokens.{tokens_of, tokens_at}
 use Rattle.text.specs.declared.faults.Fault.{Fault}
 use Rattle.office.specs.Headers.{header}
@@ -18,7 +18,7 @@ with_words (Err t) ws = Err t
 
 -- what the whole input asks for: the first line has the kind and the number of shares, the others have the words
 abbrev pub asked : List ℕ → Result (Header × List ℕ) Trouble
-asked input = with_words (header (tokens_of (first_line input))) (numbers_of 65535 (tokens_at (length (first_line input)) input))
+asked input = with_words (header (tokens_of (first_line input))) (words_of (tokens_at (length (first_line input)) input))
 
 -- a request of the code
 abbrev pub contents : Request → Header × List ℕ

@@ -1,4 +1,4 @@
-// The office's answer to an input: the report, or what is wrong.
+//! The office's answer to an input: the report, or what is wrong.
 ghost use Rattle.std.specs.Prelude.{◌≡◌, IfOk};
 ghost use Rattle.kinds.specs.Bits.{ops as bit_ops, coding as bit_coding};
 ghost use Rattle.office.specs.Answers.{Polynomial, Bits, ByName, Answers};
@@ -12,7 +12,7 @@ use names::Work;
 use poly::Centred;
 use std::alloc::{AllocError, Global};
 
-// Reads the shares that the input holds, adds them, and reports their sum.
+/// Reads the shares that the input holds, adds them, and reports their sum.
 pub fn answer(heap: Global, input: &[u8]) -> Result<String, Trouble>
     ensures { Answers input.now result }
 {
@@ -24,25 +24,30 @@ pub fn answer(heap: Global, input: &[u8]) -> Result<String, Trouble>
 fn reported(heap: Global, request: &Request) -> Result<String, Trouble>
     ensures { ByName request.now.header request.now.words.items result }
 {
-    request.header.name.run(Report { heap, request })
+    request.header.name.run(Reporting { heap, request })
 }
 
-// The report that a request asks for.
+// The work of making the report that a request asks for.
 #[derive(Drop)]
-struct Report<'a> {
+struct Reporting<'a> {
     heap: Global,
     request: &'a Request,
 }
 
-impl Work for Report<'_> {
+impl Work for Reporting<'_> {
     type Outcome = Result<String, Trouble>;
 
     ghost in_polynomials = { λ w M R C numbers r. Polynomial R C numbers w.request.now.header w.request.now.words.items r };
 
     ghost in_bits = { λ w r. Bits bit_ops bit_coding w.request.now.header w.request.now.words.items r };
 
-    fn polynomials<P: Centred + Ring + Clone>(self) -> Result<String, Trouble> {
-        polynomial::<P>(self.heap, self.request)
+    fn polynomials<P: Centred + Ring>(self) -> Result<String, Trouble> {
+        let Reporting { heap, request } = self;
+        let sum: P = recombined(heap, &request.words, request.header.shares)?;
+        let mut text = element_lines(heap, request.header, &sum)?;
+        let numbers = centred_numbers(heap, &sum)?;
+        push_centred(&mut text, &numbers)?;
+        Ok(text)
     }
 
     fn bits(self) -> Result<String, Trouble> {
@@ -50,17 +55,8 @@ impl Work for Report<'_> {
     }
 }
 
-// The report of a sum of polynomials.
-fn polynomial<P: Centred + Clone>(heap: Global, request: &Request) -> Result<String, Trouble>
-    ensures { Polynomial P.ops P.coding P.numbers request.now.header request.now.words.items result }
-{
-    let sum: P = recombined(heap, &request.words, request.header.shares)?;
-    let mut text = element_lines(heap, request.header, &sum)?;
-    let numbers = centred_numbers(heap, &sum)?;
-    push_centred(&mut text, &numbers)?;
-    Ok(text)
-}
-
+// The element's centred numbers. Beside `shown`: one function for both would take a closure that fills the buffer, and a
+// contract of when it fills it, longer than this.
 fn centred_numbers<P: Centred>(heap: Global, x: &P) -> Result<Vec<i16>, AllocError>
     ensures { IfOk result (λ v. v.items ≡ P.numbers x.now) }
 {
@@ -71,8 +67,8 @@ fn centred_numbers<P: Centred>(heap: Global, x: &P) -> Result<Vec<i16>, AllocErr
     }
 }
 
-// The report of a sum in a kind whose elements have words alone.
-fn bits<K: Kind + Clone>(heap: Global, request: &Request) -> Result<String, Trouble>
+// The report of a sum in a kind whose elements have words alone. Generic, since the search gets lost in the words of W itself.
+fn bits<K: Kind>(heap: Global, request: &Request) -> Result<String, Trouble>
     ensures { Bits K.ops K.coding request.now.header request.now.words.items result }
 {
     let sum: K = recombined(heap, &request.words, request.header.shares)?;

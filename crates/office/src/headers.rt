@@ -1,4 +1,4 @@
-// The first line: a kind, and how many shares of it there are.
+//! The first line: a kind, and how many shares of it there are.
 ghost use Rattle.std.specs.Prelude.{◌≡◌};
 ghost use Rattle.text.specs.Tokens.{tokens_of};
 ghost use Rattle.office.specs.Headers.{q_name, t_name, with_shares, named, limited, header};
@@ -9,7 +9,7 @@ use names::Name;
 use std::alloc::Global;
 use text::{Reader, words};
 
-// A kind, and how many shares of it there are.
+/// A kind, and how many shares of it there are.
 #[derive(Clone, Copy, PartialEq, Eq, Debug)]
 pub struct Header {
     pub name: Name,
@@ -22,9 +22,7 @@ impl Header {
         ensures { UnlessMemory (header (tokens_of line.now)) result }
     {
         let mut reader = Reader::new(line);
-        let Some(first) = reader.token() else {
-            return Err(Trouble::Header { at: 0 });
-        };
+        let first = reader.token().ok_or(Trouble::Header { at: 0 })?;
         let numbers = words(reader, heap)?;
         limited(first.at, named(first.text, &numbers))
     }
@@ -53,7 +51,7 @@ fn named(token: &[u8], numbers: &[u16]) -> Option<Header>
     }
 }
 
-// The kind, where there is one, with so many shares.
+// The kind, where there is one, with so many shares. A function of its own: with `?` in its arms the proof of `named` stays open.
 fn with_shares(name: Option<Name>, shares: u16) -> Option<Header>
     ensures { result ≡ with_shares shares name }
 {
@@ -62,7 +60,7 @@ fn with_shares(name: Option<Name>, shares: u16) -> Option<Header>
     Some(Header { name, shares })
 }
 
-// The kind Q(l, k), where it is put together.
+// The kind Q(l, k), where it is put together. A function for each letter: to a `TryFrom` numbers alone would not tell Q from T.
 fn q_name(l: u16, k: u16) -> Option<Name>
     ensures { result ≡ q_name l k }
 {

@@ -1,4 +1,4 @@
-// What the office does with the shares that it is sent: reads them, adds them, and reports the key.
+//! What the office does with the shares that it is sent: reads them, adds them, and reports the key.
 #![tactic(auto)]
 
 pub mod answers;

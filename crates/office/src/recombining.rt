@@ -1,4 +1,4 @@
-// The element that shares make up, from their words.
+//! The element that shares make up, from their words.
 ghost use Rattle.std.specs.Prelude.{length};
 ghost use Rattle.office.specs.Sums.{Summed, Recombined};
 
@@ -7,11 +7,7 @@ use kinds::{Kind, Refusal, read_list, recombine};
 use std::alloc::Global;
 
 // The sum of so many shares with these words.
-pub(crate) fn recombined<K: Kind + Clone>(
-    heap: Global,
-    words: &[u16],
-    shares: usize,
-) -> Result<K, Trouble>
+pub(crate) fn recombined<K: Kind>(heap: Global, words: &[u16], shares: usize) -> Result<K, Trouble>
     ensures { Recombined K.ops K.coding shares words.now result }
 {
     let mut list = vec![in heap; K::zero(); shares]?;

@@ -1,4 +1,4 @@
-// The report that is printed.
+//! The report that is printed.
 ghost use Rattle.std.specs.Prelude.{◌≡◌, ◌++◌, IfOk, OnOk, string_bytes};
 ghost use Rattle.office.specs.Report.{heading, element_lines, centred_line};
 

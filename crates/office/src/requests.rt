@@ -1,4 +1,4 @@
-// What is asked for: a kind, a number of shares, and their words.
+//! What is asked for: a kind, a number of shares, and their words.
 ghost use Rattle.office.specs.Requests.{Requested};
 
 use crate::headers::Header;
@@ -6,7 +6,7 @@ use crate::troubles::Trouble;
 use std::alloc::Global;
 use text::{Reader, first_line, words};
 
-// A header, and the words of all the shares that it speaks of.
+/// A header, and the words of all the shares that it speaks of.
 #[derive(Drop)]
 pub struct Request {
     pub header: Header,

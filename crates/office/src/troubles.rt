@@ -1,4 +1,4 @@
-// Why there is no report.
+//! Why there is no report.
 ghost use Rattle.std.specs.Prelude.{◌≡◌};
 ghost use Rattle.office.specs.Troubles.{trouble_of};
 ghost use Rattle.office.specs.declared.troubles.Trouble.TheVariants.{Refused, Memory};
@@ -9,18 +9,19 @@ use text::{Fault, WordsError};
 
 #[derive(Clone, Copy, PartialEq, Eq, Debug)]
 pub enum Trouble {
-    // The first line, which begins at this offset, is no kind that is put together with a number of shares.
+    /// The first line, which begins at this offset, is no kind that is put together with a number of shares.
     Header { at: usize },
-    // The first line asks for more than 64 shares.
+    /// The first line asks for more than 64 shares.
     ShareCount { at: usize },
-    // A word is no number of 16 bits.
+    /// A word is no number of 16 bits.
     BadText(Fault),
-    // The words are refused.
+    /// The words are refused.
     Refused(Refusal),
-    // There is too little memory.
+    /// There is too little memory.
     Memory,
 }
 
+// Each program has troubles and conversions of its own: one enum for both would let each program report the other's.
 impl From<WordsError> for Trouble {
     ghost from_gives = { λ e r. r ≡ trouble_of e };
 

@@ -1,11 +1,12 @@
 -- Additions into a part of a list, and the rows of a product, modulo 2^16. Assumes nothing.
 use Rattle.std.proofs.Common.{◌≡◌, ℕ, zero, suc, ◌+◌, ◌-◌, ◌*◌, ◌%◌, ◌<◌, ◌≤◌, List, [], length, get_or, take, drop, replicate, sym, refl, ap, ◌∙◌, ap₂, ⊎_elim, add_assoc, mul-zero, arith, rules}
 use borrow.Rule.Slice.PartMut.{mid_of, put_mid}
-use Rattle.std.proofs.lemmas.List.{places, get_or_past, get_or-take, get_or-drop}
+use Rattle.std.proofs.lemmas.List.{places, length-replicate, get_or_past, get_or-replicate, get_or-take, get_or-drop}
 use Rattle.std.proofs.lemmas.Bool.{cases_lt}
 use Rattle.std.specs.Simd.{first_chunks}
 use Rattle.poly.specs.Lanes.{conv, shifted, rows_at, Holds, Padded}
 use Rattle.poly.specs.Lists.{at}
+use Rattle.poly.specs.declared.lanes.TheConstants.{LONGEST, PADDED}
 use Rattle.poly.proofs.Convolutions.{shifted_below, shifted_above, shifted_plus, shifted_same, shifted_shifted, shifted_none, rows_shifted, conv_none}
 
 -- the places of a list of which a part of w places from i on is written anew
@@ -51,16 +52,17 @@ rows_none zero f g k q = refl
 rows_none (suc r) f g k q =
     ap₂ ◌+◌ (ap (f 0 *◌) (q r (omega arith)) ∙ mul-zero (f 0)) (rows_none r (λ i. f (suc i)) g k (λ j h. q j (omega arith)))
 
+-- zeros at every place, past the end too
 zeros_at : (n k : ℕ) → at (replicate n 0) k ≡ 0
-zeros_at n k = ⊎_elim (λ h. search (rules, places)) (λ h. search (rules, places)) (cases_lt k n)
+zeros_at n k = ⊎_elim (get_or-replicate n k 0 0) (λ h. get_or_past (replicate n 0) k 0 (omega (arith, length-replicate {A = ℕ} n 0))) (cases_lt k n)
 
 -- b, written into zeros eight places later
-pub padded_places : (w : ℕ) (b s : List ℕ) → w ≡ length b → s ≡ b → length b ≤ 832 → Padded b (put_mid 8 w (replicate 848 0) s)
+pub padded_places : (w : ℕ) (b s : List ℕ) → w ≡ length b → s ≡ b → length b ≤ LONGEST → Padded b (put_mid 8 w (replicate PADDED 0) s)
 padded_places w b s wide same most k =
     ⊎_elim before from (cases_lt k 8)
   where
     zeros : List ℕ
-    zeros = replicate 848 0
+    zeros = replicate PADDED 0
 
     inside : 8 + w ≤ length zeros
     inside = omega arith
@@ -69,13 +71,13 @@ padded_places w b s wide same most k =
     long = ap length same ∙ sym wide
 
     before : k < 8 → at (put_mid 8 w zeros s) k ≡ shifted 8 (at b) k
-    before h = put_before 8 w zeros s inside long k h ∙ zeros_at 848 k ∙ sym (shifted_below 8 (at b) k h)
+    before h = put_before 8 w zeros s inside long k h ∙ zeros_at PADDED k ∙ sym (shifted_below 8 (at b) k h)
 
     from : 8 ≤ k → at (put_mid 8 w zeros s) k ≡ shifted 8 (at b) k
     from h =
         ⊎_elim
         (λ j. put_within 8 w zeros s inside long k h j ∙ ap (λ xs. at xs (k - 8)) same)
-        (λ j. put_after 8 w zeros s inside long k j ∙ zeros_at 848 k ∙ sym (get_or_past b (k - 8) 0 (omega arith)))
+        (λ j. put_after 8 w zeros s inside long k j ∙ zeros_at PADDED k ∙ sym (get_or_past b (k - 8) 0 (omega arith)))
         (cases_lt k (8 + w))
         ∙ sym (shifted_above 8 (at b) k h)
 

@@ -2,6 +2,7 @@
 use Rattle.std.specs.Prelude.{◌≡◌, ℕ, zero, suc, ◌+◌, ◌-◌, ◌*◌, ◌/◌, ◌%◌, ◌<◌, ◌≤◌, List, length}
 use Rattle.poly.specs.Modulus.{modulus}
 use Rattle.poly.specs.Lists.{at}
+use Rattle.poly.specs.declared.lanes.TheConstants.{LONGEST}
 
 -- the coefficient of X^k in the product of f and g
 abbrev pub conv : (ℕ → ℕ) → (ℕ → ℕ) → ℕ → ℕ
@@ -27,11 +28,11 @@ Holds d xs = (k : ℕ) → k < length xs → at xs k % 65536 ≡ d k % 65536
 abbrev pub Padded : List ℕ → List ℕ → Type 0
 Padded b xs = (k : ℕ) → at xs k ≡ shifted 8 (at b) k
 
--- two factors of equally many coefficients, at most 832 and a multiple of 8, and room for their product
+-- two factors of equally many coefficients, at most LONGEST and a multiple of 8, and room for their product
 pub record Factors (a b p : List ℕ) : Type 0 where
   pub alike : length a ≡ length b
   pub room : length p ≡ 2 * length b
-  pub most : length b ≤ 832
+  pub most : length b ≤ LONGEST
   pub eights : length b % 8 ≡ 0
 
 -- Of middle, the two halves of p are taken away, and what is left, d, is added to p from the middle of its first half on.

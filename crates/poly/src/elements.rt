@@ -1,4 +1,4 @@
-// The elements of Q and T: N coefficients from 0 to M - 1, constant term first.
+//! The elements of Q and T: N coefficients from 0 to M - 1, constant term first.
 ghost use Rattle.std.specs.Prelude.{◌≡◌, ℕ, ◌<◌, length, slice_index};
 ghost use Rattle.poly.specs.Modulus.{modulus};
 
@@ -7,7 +7,7 @@ pub mod centred;
 pub mod kind;
 pub mod products;
 
-#[derive(Clone, Copy)]
+#[derive(Clone, Copy, PartialEq, Eq, Debug)]
 pub struct Poly<const N: usize, const M: u16> {
     coeffs: [u16; N],
     ghost long: { length coeffs ≡ N },

@@ -1,8 +1,9 @@
-// Products of polynomials whose coefficients are numbers of 16 bits, modulo 2^16: by halves, and at the end by rows. They
-// allocate nothing: all room is in arrays of fixed length.
+//! Products of polynomials whose coefficients are numbers of 16 bits, modulo 2^16: by halves, and at the end by rows. All room
+//! is in arrays of fixed length: products are called from C, with no allocator.
 ghost use Rattle.std.specs.Prelude.{◌≡◌, ℕ, ◌+◌, ◌*◌, ◌%◌, ◌<◌, ◌≤◌, length};
 ghost use Rattle.poly.specs.Lanes.{conv, rows_at, Padded, Factors, Holds, Joined, Coefficients};
 ghost use Rattle.poly.specs.Lists.{at};
+ghost use Rattle.poly.specs.declared.lanes.TheConstants.{LONGEST, PRODUCT};
 
 // The longest factor, widened: a multiple of 64 above 820, so that its halves' halves' halves are multiples of 8.
 const LONGEST: usize = 832;
@@ -25,18 +26,19 @@ fn rows(c: &[u16; 8], b: &[u16], k: usize) -> u16
     ensures { result ≡ rows_at 8 (at c.now) (at b.now) k % 65536 }
 {
     let mut sum = 0u16;
+    // By index: over c zipped with b[k + 1..k + 9] read backwards the check finds no proof of a turn, and it is no quicker.
     for (j, x) in c.iter().enumerate() {
         sum = sum.wrapping_add(x.wrapping_mul(b[k + 8 - j]));
     }
     sum
 }
 
-// Puts f(k, x) in place of each x, where k is its place.
+// Puts f(k, x) in place of each x, where k is its place: what d gives at k, where f can only answer that modulo 2^16. Callers
+// index at k the lists that they read: of what is written through `iter_mut().zip(..)` a proof knows only the length.
 fn put_each<F: Fn(usize, u16) -> u16>(xs: &mut [u16], f: F)
     requires { (k x : ℕ) → k < length xs.old → F.pre f k x }
-    ensures { (k : ℕ) → k < length xs.new → F.post f k (at xs.old k) (at xs.new k) }
+    ensures { (k e : ℕ) → k < length xs.new → ((y : ℕ) → F.post f k (at xs.old k) y → y % 65536 ≡ e % 65536) → at xs.new k % 65536 ≡ e % 65536 }
 {
-    // By index: of what is written through `iter_mut().zip(..)` a proof knows only the length.
     for (k, x) in xs.iter_mut().enumerate() {
         *x = f(k, *x);
     }
@@ -52,7 +54,7 @@ fn add_rows(c: &[u16; 8], b: &[u16], sums: &mut [u16])
 
 // b behind eight zeros and before more of them.
 fn padded(b: &[u16]) -> [u16; PADDED]
-    requires { length b.now ≤ 832 }
+    requires { length b.now ≤ LONGEST }
     ensures { Padded b.now result }
 {
     let mut padded = [0; PADDED];
@@ -129,8 +131,8 @@ fn multiply(a: &[u16], b: &[u16], p: &mut [u16], work: &mut [u16])
 
 // Writes the coefficients of the product of a and b. Both are widened with zeros, so that they halve well.
 pub(crate) fn put_product<const N: usize>(a: &[u16; N], b: &[u16; N], p: &mut [u16])
-    requires most { N < 832 }
-    requires room { length p.old ≡ 1664 }
+    requires most { N < LONGEST }
+    requires room { length p.old ≡ PRODUCT }
     ensures { Coefficients a.now b.now p.new }
 {
     let n = N / 64 * 64 + 64;

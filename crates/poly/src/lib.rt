@@ -1,4 +1,4 @@
-// Polynomials modulo 1 + X + ... + X^N and a modulus M: the kinds Q and T.
+//! Polynomials modulo 1 + X + ... + X^N and a modulus M: the kinds Q and T.
 #![tactic(auto)]
 
 pub mod elements;

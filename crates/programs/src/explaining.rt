@@ -1,11 +1,11 @@
-// What is wrong with an input, in words for the person who typed it.
+//! What is wrong with an input, in words for the person who typed it.
 ghost use Rattle.std.specs.Prelude.{◌≡◌, ℕ, Option};
 ghost use Rattle.programs.specs.Explaining.{told};
 
 use std::fmt;
 use text::Place;
 
-// What is wrong with an input, printed as a message that leaves out where.
+/// What is wrong with an input, printed as a message that leaves out where.
 pub trait Placed: fmt::Display {
     // The offset that the message is about, where it is about one.
     ghost offset: { Self → Option ℕ };
@@ -14,7 +14,7 @@ pub trait Placed: fmt::Display {
         ensures { result ≡ offset self.now };
 }
 
-// A trouble, with the input that it comes from.
+/// A trouble, with the input that it comes from.
 #[derive(Clone, Copy)]
 pub struct Explained<'a, T> {
     pub input: &'a [u8],

@@ -1,4 +1,4 @@
-// What the programs share: they serve what they read, explain what is wrong with it, and show the words of elements.
+//! What the programs share: they serve what they read, explain what is wrong with it, and show the words of elements.
 #![tactic(auto)]
 
 pub mod explaining;

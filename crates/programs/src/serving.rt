@@ -1,4 +1,4 @@
-// A program that answers what it reads.
+//! A program that answers what it reads.
 ghost use Rattle.std.specs.Prelude.{◌≡◌, List, ℕ, IfOk, IfSome};
 ghost use Rattle.programs.specs.Explaining.{told};
 ghost use Rattle.programs.specs.Serving.{Writes};
@@ -8,7 +8,8 @@ use std::alloc::Global;
 use std::io::{self, Read, Write};
 use std::process::ExitCode;
 
-// Answers all that `input` gives: the text goes to `output`; what is wrong goes to `errors`, as a line, and the status says so.
+/// Answers all that `input` gives: the text goes to `output`; what is wrong goes to `errors`, as a line, and the status says so.
+/// Where reading or writing fails, nothing is said of what was written till then.
 pub fn serve<
     T: Placed + Drop,
     F: FnOnce(Global, &[u8]) -> Result<String, T>,

@@ -1,10 +1,10 @@
-// Elements as lists of words.
+//! Elements as lists of words.
 ghost use Rattle.std.specs.Prelude.{◌≡◌, IfOk};
 
 use kinds::{Kind, show};
 use std::alloc::{AllocError, Global};
 
-// The element's words.
+/// The element's words.
 pub fn shown<K: Kind>(heap: Global, x: &K) -> Result<Vec<u16>, AllocError>
     ensures { IfOk result (λ v. v.items ≡ K.coding.words x.now) }
 {

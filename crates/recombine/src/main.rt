@@ -1,16 +1,16 @@
-// Recombines the shares on standard input, and prints the element that they make up.
+//! Recombines the shares on standard input, and prints the element that they make up.
 #![tactic(auto)]
 
 use programs::serve;
 use std::process::ExitCode;
 
+// Only `main` names the runtime.
 fn main(rt: HostRuntime) -> anyhow::Result<ExitCode> {
-    let (mut input, mut output, mut errors) = (rt.stdin(), rt.stdout(), rt.stderr());
     Ok(serve(
         rt.alloc(),
         office::answer,
-        &mut input,
-        &mut output,
-        &mut errors,
+        &mut rt.stdin(),
+        &mut rt.stdout(),
+        &mut rt.stderr(),
     )?)
 }

@@ -1,7 +1,12 @@
 -- A list up to the first byte that passes a test, and from there on.
-use Rattle.std.proofs.Common.{◌≡◌, ℕ, ◌+◌, suc, Bool, true, false, not, cond, List, [], ◌∷◌, drop, ap, ◌∙◌, refl, arith}
-use Rattle.std.specs.List.{position_or_len}
+use Rattle.std.proofs.Common.{◌≡◌, ℕ, ◌+◌, suc, Bool, true, false, not, cond, List, [], ◌∷◌, length, take, drop, ap, ◌∙◌, refl, arith}
+use Rattle.std.specs.List.{position_or_len, prefix_len}
 use Rattle.std.proofs.lemmas.List.{drop-drop}
+use Rattle.std.proofs.lemmas.List.Folds.{length-prefix_len}
+
+-- as many are taken as pass before the first that fails
+pub taken_len : {X : Type 0} (test : X → Bool) (xs : List X) → length (take (prefix_len test xs) xs) ≡ prefix_len test xs
+taken_len test xs = length-prefix_len test xs
 
 -- F at a list whose first byte has offset i: the same at what follows a byte that fails, and G where one passes or none is left
 module _ {Y : Type 0} (test : ℕ → Bool) (F G : ℕ → List ℕ → Y)

@@ -32,6 +32,10 @@ abbrev pub numbers_of : ℕ → List Word → Result (List ℕ) Fault
 numbers_of most [] = Ok []
 numbers_of most (w ∷ ws) = first (reading_of w most) (numbers_of most ws)
 
+-- the tokens as words of 16 bits, or that fault
+abbrev pub words_of : List Word → Result (List ℕ) Fault
+words_of ws = numbers_of 65535 ws
+
 -- what comes of tokens that read as `all`: the numbers, or the fault; nothing is said where memory ran out
 abbrev pub Gives : Result (List ℕ) Fault → Result (Vec ℕ Global) WordsError → Type 0
 Gives all (Ok v) = all ≡ Ok (vec_items v)

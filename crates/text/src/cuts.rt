@@ -1,4 +1,4 @@
-// Where a text is cut.
+//! Where a text is cut.
 ghost use Rattle.std.specs.Prelude.{◌≡◌, ℕ, ◌≤◌, Bool, length};
 ghost use Rattle.std.specs.List.{before_first};
 ghost use Rattle.text.specs.Cuts.{IsTest};

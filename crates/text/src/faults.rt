@@ -1,17 +1,17 @@
-// What is wrong with a token, and where.
+//! What is wrong with a token, and where.
 ghost use Rattle.std.specs.Prelude.{Some};
 ghost use Rattle.text.specs.Shown.{problem_text};
 
 use std::fmt;
 
-// What is wrong with a token.
+/// What is wrong with a token.
 #[derive(Clone, Copy, PartialEq, Eq, Debug)]
 pub enum Problem {
     NotANumber,
     TooLarge { most: u64 },
 }
 
-// A problem with the token at offset `at`.
+/// A problem with the token at offset `at`.
 #[derive(Clone, Copy, PartialEq, Eq, Debug)]
 pub struct Fault {
     pub at: usize,

@@ -1,4 +1,4 @@
-// Decimal words out of text and into it: lines, tokens, numbers, and the line and column of what is wrong.
+//! Decimal words out of text and into it: lines, tokens, numbers, and the line and column of what is wrong.
 #![tactic(auto)]
 
 mod cuts;

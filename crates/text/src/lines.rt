@@ -1,4 +1,4 @@
-// Lines: each ends before a line feed, or at the end of the text.
+//! Lines: each ends before a line feed, or at the end of the text.
 ghost use Rattle.std.specs.Prelude.{◌≡◌, ◌+◌, [], ◌∷◌, length, MatchOption};
 ghost use Rattle.std.specs.Iterator.{YieldsFirstBy, item_count};
 ghost use Rattle.text.specs.Lines.{first_line, lines_at, lines_of, lines_to_come};
@@ -7,15 +7,15 @@ ghost use Rattle.text.specs.Tokens.{to_come};
 use crate::cuts::before;
 use crate::tokens::Reader;
 
-// Gives the lines of `text` from offset `at` on, one after another.
-// A type apart from `Reader`, as std's `Lines` is from `Chars`: the type says what comes.
+/// Gives the lines of `text` from offset `at` on, one after another.
+/// A type apart from `Reader`, as std's `Lines` is from `Chars`: the type says what comes.
 #[derive(Drop)]
 pub struct LineReader<'a> {
     pub text: &'a [u8],
     pub at: usize,
 }
 
-// The bytes before the first line feed.
+/// The bytes before the first line feed.
 pub fn first_line(text: &[u8]) -> &[u8]
     ensures { result.now ≡ first_line text.now }
 {
@@ -23,14 +23,14 @@ pub fn first_line(text: &[u8]) -> &[u8]
 }
 
 impl<'a> LineReader<'a> {
-    // Starts at the first byte.
+    /// Starts at the first byte.
     pub fn new(text: &'a [u8]) -> LineReader<'a>
         ensures { lines_to_come result ≡ lines_of text.now }
     {
         LineReader { text, at: 0 }
     }
 
-    // The tokens of the next line, or `None` at the end.
+    /// The tokens of the next line, or `None` at the end. Kept beside `next`: callers know it by this name.
     pub fn line(&mut self) -> Option<Reader<'a>>
         ensures { YieldsFirstBy to_come lines_to_come self.old result self.new }
     {

@@ -1,6 +1,6 @@
-// All the tokens of a text as numbers.
+//! All the tokens of a text as numbers.
 ghost use Rattle.std.specs.Prelude.{◌≡◌};
-ghost use Rattle.text.specs.Readings.{numbers_of, Gives};
+ghost use Rattle.text.specs.Readings.{words_of, Gives};
 ghost use Rattle.text.specs.Tokens.{to_come};
 ghost use Rattle.text.specs.declared.lists.WordsError.TheVariants.{Bad, Memory};
 
@@ -8,7 +8,7 @@ use crate::faults::Fault;
 use crate::tokens::Reader;
 use std::alloc::{AllocFailed, Global};
 
-// Why there are no words: a token that is none, or too little memory.
+/// Why there are no words: a token that is none, or too little memory.
 #[derive(Clone, Copy, PartialEq, Eq, Debug)]
 pub enum WordsError {
     Bad(Fault),
@@ -31,9 +31,9 @@ impl<T: Drop> From<AllocFailed<T>> for WordsError {
     }
 }
 
-// The tokens still to come, as numbers of 16 bits.
+/// The tokens still to come, as numbers of 16 bits.
 pub fn words(reader: Reader, heap: Global) -> Result<Vec<u16>, WordsError>
-    ensures { Gives (numbers_of 65535 (to_come reader.entry)) result }
+    ensures { Gives (words_of (to_come reader.entry)) result }
 {
     let mut all = Vec::new(heap);
     for token in reader {

@@ -1,4 +1,4 @@
-// Tokens as decimal numbers.
+//! Tokens as decimal numbers.
 ghost use Rattle.std.specs.Prelude.{◌≡◌, ◌-◌, ◌^◌, min, true, false, MatchOption};
 ghost use Rattle.text.specs.Numbers.{is_number, value_of, reading};
 ghost use Rattle.text.specs.Readings.{reading_of};
@@ -7,7 +7,8 @@ ghost use Rattle.text.specs.Tokens.{word};
 use crate::faults::{Fault, Problem};
 use crate::tokens::Token;
 
-// The number that `text` writes, or the largest of 128 bits where it is larger; `None` where it writes none.
+// The number that `text` writes, or `u128::MAX` where it is larger; `None` where it writes none.
+// Not `str::parse`: that takes a `+` too.
 fn decimal(text: &[u8]) -> Option<u128>
     ensures { MatchOption result (is_number text.now ≡ false)
         (λ v. (is_number text.now ≡ true) × (v ≡ min (value_of text.now) (2 ^ 128 - 1))) }
@@ -24,7 +25,7 @@ fn decimal(text: &[u8]) -> Option<u128>
 }
 
 impl Token<'_> {
-    // The number that the token writes, where it writes one of at most `most`.
+    /// The number that the token writes, where it writes one of at most `most`.
     pub fn number(&self, most: u64) -> Result<u64, Problem>
         ensures { result ≡ reading self.now.text.now most }
     {
@@ -35,7 +36,7 @@ impl Token<'_> {
         }
     }
 
-    // The same, with the token's offset where it writes no such number.
+    /// The same, with the token's offset where it writes no such number.
     #[tactic(auto, using(crate::proofs::Placing::placed_is))]
     pub fn read(&self, most: u64) -> Result<u64, Fault>
         ensures { result ≡ reading_of (word self.now) most }

@@ -1,11 +1,11 @@
-// Lines and columns.
+//! Lines and columns.
 ghost use Rattle.std.specs.Prelude.{◌≡◌, ◌-◌, ◌^◌, min, Some};
 ghost use Rattle.text.specs.Places.{feeds, since, line_of, column_of};
 ghost use Rattle.text.specs.Shown.{place_text};
 
 use std::fmt;
 
-// A line and a column, both counted from 1.
+/// A line and a column, both counted from 1.
 #[derive(Clone, Copy, PartialEq, Eq, Debug)]
 pub struct Place {
     pub line: usize,
@@ -20,6 +20,7 @@ fn feeds(text: &[u8]) -> usize
 }
 
 // How many bytes follow the last line feed, or all where there is none.
+#[tactic(auto, using(crate::proofs::Cutting::taken_len))]
 fn since(text: &[u8]) -> usize
     ensures { result ≡ since text.now }
 {
@@ -27,7 +28,7 @@ fn since(text: &[u8]) -> usize
 }
 
 impl Place {
-    // The place of offset `at`, or of the end where `at` lies past it.
+    /// The place of offset `at`, or of the end where `at` lies past it.
     pub fn of(text: &[u8], at: usize) -> Place
         ensures line { result.line ≡ min (line_of text.now at) (2 ^ 64 - 1) }
         ensures column { result.column ≡ min (column_of text.now at) (2 ^ 64 - 1) }

@@ -1,26 +1,35 @@
-// Tokens: the longest runs of bytes that are not white space.
-ghost use Rattle.std.specs.Prelude.{◌≡◌, ◌+◌, ◌≤◌, [], ◌∷◌, length, IfSome, MatchOption};
+//! Tokens: the longest runs of bytes that are not white space.
+ghost use Rattle.std.specs.Prelude.{◌≡◌, ◌+◌, ◌≤◌, [], ◌∷◌, length, not, IfSome, MatchOption};
+ghost use Rattle.std.specs.Char.{is_ascii_whitespace};
 ghost use Rattle.std.specs.Iterator.{YieldsFirstBy, item_count};
+ghost use Rattle.std.specs.List.{position};
 ghost use Rattle.text.specs.Tokens.{tokens_at, tokens_of, to_come, word};
 
 use crate::cuts::before;
 
-// A token's bytes, and the offset of the first of them in the whole input.
+/// A token's bytes, and the offset of the first of them in the whole input.
 #[derive(Clone, Copy, PartialEq, Eq, Debug)]
 pub struct Token<'a> {
     pub text: &'a [u8],
     pub at: usize,
 }
 
-// Gives the tokens of `text` from offset `at` on, one after another.
+/// Gives the tokens of `text` from offset `at` on, one after another.
 #[derive(Drop)]
 pub struct Reader<'a> {
     pub text: &'a [u8],
     pub at: usize,
 }
 
+// Where the first token starts.
+fn start(text: &[u8]) -> Option<usize>
+    ensures { result ≡ position (λ b. not (is_ascii_whitespace b)) text.now }
+{
+    text.iter().position(|b| !b.is_ascii_whitespace())
+}
+
 impl<'a> Reader<'a> {
-    // Starts at the first byte.
+    /// Starts at the first byte.
     pub fn new(text: &'a [u8]) -> Reader<'a>
         ensures text { result.text.now ≡ text.now }
         ensures tokens { to_come result ≡ tokens_of text.now }
@@ -28,7 +37,7 @@ impl<'a> Reader<'a> {
         Reader { text, at: 0 }
     }
 
-    // The next token, or `None` at the end.
+    /// The next token, or `None` at the end.
     pub fn token(&mut self) -> Option<Token<'a>>
         ensures takes { YieldsFirstBy word to_come self.old result self.new }
         ensures text { self.new.text.now ≡ self.old.text.now }
@@ -45,7 +54,7 @@ impl<'a> Reader<'a> {
         ensures within { IfSome result (λ t. t.at + length t.text.now ≤ length self.now.text.now) }
     {
         let ahead = self.text.get(self.at..)?;
-        let at = self.at + ahead.iter().position(|b| !b.is_ascii_whitespace())?;
+        let at = self.at + start(ahead)?;
         let text = before(&self.text[at..], |b| b.is_ascii_whitespace());
         Some(Token { text, at })
     }

@@ -1,4 +1,4 @@
-// Words, refusals, sums and centred numbers of each kind.
+//! Words, refusals, sums and centred numbers of each kind.
 use kinds::*;
 use poly::Centred;
 use poly::sizes::*;

@@ -1,4 +1,4 @@
-// Examples of what the crates promise, run as tests.
+//! Examples of what the crates promise, run as tests.
 #![tactic(auto)]
 
 #[cfg(test)]

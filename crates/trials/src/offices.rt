@@ -1,4 +1,4 @@
-// What the office answers, and how it explains what is wrong.
+//! What the office answers, and how it explains what is wrong.
 use kinds::Refusal;
 use office::{Explained, Trouble, answer};
 use programs::serve;

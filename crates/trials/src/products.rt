@@ -1,4 +1,4 @@
-// What is answered to cases, and how what is wrong with them is told.
+//! What is answered to cases, and how what is wrong with them is told.
 use cases::{Explained, Trouble, answer};
 use kinds::Refusal;
 use names::{Name, UnknownName};

@@ -1,4 +1,4 @@
-// Tokens and numbers: odd bytes, bounds, long numbers, places.
+//! Tokens and numbers: odd bytes, bounds, long numbers, places.
 use std::test::Fail;
 use text::faults::{Fault, Problem};
 use text::lines::LineReader;

@@ -1,4 +1,4 @@
-// W as a kind, bit by bit: its difference is its sum.
+//! W as a kind, bit by bit: its difference is its sum.
 ghost use Rattle.std.specs.Prelude.{◌≡◌, refl};
 ghost use Rattle.kinds.specs.Bits.{of_bits, ops as bit_ops, coding as bit_coding};
 ghost use Rattle.kinds.specs.BitLaws.{laws as bit_laws, codes as bit_codes};
@@ -50,13 +50,13 @@ impl Kind for W {
     }
 
     fn from_words(words: &[u16]) -> W {
-        W::from(u32::from(word_at(words, 0)) + 65536 * u32::from(word_at(words, 1)))
+        W::from(u32::from(word_at(words, 0)) | u32::from(word_at(words, 1)) << 16)
     }
 
     fn word(&self, i: usize) -> u16 {
         match i {
-            0 => (self.bits % 65536) as u16,
-            1 => (self.bits / 65536) as u16,
+            0 => (self.bits & 0xffff) as u16,
+            1 => (self.bits >> 16) as u16,
             _ => 0,
         }
     }

@@ -1,4 +1,4 @@
-// Elements made coefficient by coefficient.
+//! Elements made coefficient by coefficient.
 ghost use Rattle.std.specs.Prelude.{◌≡◌, ℕ, ◌%◌, ◌<◌};
 ghost use Rattle.poly.specs.Elements.{poly, sum_at, difference_at};
 ghost use Rattle.poly.specs.Lists.{at};
@@ -25,7 +25,8 @@ impl<const N: usize, const M: u16> Poly<N, M> {
         }
     }
 
-    // The closures here capture slices: one that captured an element would need clauses of its own.
+    // The closures here capture slices: one that captured a struct whose size is a const parameter would need clauses of
+    // its own.
     pub(super) fn sum(&self, other: &Self) -> Self
         ensures { result ≡ poly N M (sum_at self.now other.now) }
     {

@@ -1,11 +1,12 @@
-// Coefficients as numbers around zero, as the office wants them.
-ghost use Rattle.std.specs.Prelude.{◌≡◌, ◌<◌, List, length, ℤ};
+//! Coefficients as numbers around zero, as the office wants them.
+ghost use Rattle.std.specs.Prelude.{◌≡◌, ◌<◌, List, ℤ};
 ghost use Rattle.kinds.specs.Words.{Shows};
 ghost use Rattle.poly.specs.Centred.{centred, centred_numbers};
+ghost use Rattle.poly.specs.Elements.{coefficient};
 ghost use Rattle.poly.specs.Modulus.{modulus};
 
 use super::Poly;
-use kinds::{Kind, Refusal};
+use kinds::{Kind, Refusal, show_each};
 
 // Above half of m, c counts as c - m.
 fn centre(c: u16, m: u16) -> i16
@@ -19,11 +20,11 @@ fn centre(c: u16, m: u16) -> i16
     }
 }
 
-// A kind whose elements have centred numbers.
+/// A kind whose elements have centred numbers.
 pub trait Centred: Kind {
     ghost numbers: { Self → List ℤ };
 
-    // Writes the centred numbers of the coefficients into the buffer, constant term first.
+    /// Writes the centred numbers of the coefficients into the buffer, constant term first.
     fn centred(&self, out: &mut [i16]) -> Result<(), Refusal>
         ensures { Shows Self.coding.width (numbers self.now) out.old out.new result };
 }
@@ -32,22 +33,12 @@ impl<const N: usize, const M: u16> Centred for Poly<N, M> {
     ghost numbers = { centred_numbers };
 
     fn centred(&self, out: &mut [i16]) -> Result<(), Refusal> {
-        if out.len() != N {
-            return Err(Refusal::BufferLength);
-        }
-        self.put_centred(out);
-        Ok(())
-    }
-}
-
-impl<const N: usize, const M: u16> Poly<N, M> {
-    fn put_centred(&self, out: &mut [i16])
-        requires { length out.old ≡ N }
-        ensures { out.new ≡ centred_numbers self.now }
-    {
-        // By index: of what is written through `iter_mut().zip(..)` a proof knows only the length.
-        for (i, number) in out.iter_mut().enumerate() {
-            *number = centre(self.coeffs[i], M);
-        }
+        show_each(
+            N,
+            out,
+            |i| -> i16
+                ensures { result ≡ centred (modulus M) (coefficient self.entry.now i) }
+            { centre(self.word(i), M) },
+        )
     }
 }

@@ -1,4 +1,4 @@
-// Polynomials as a kind.
+//! Polynomials as a kind.
 ghost use Rattle.std.specs.Prelude.{refl};
 ghost use Rattle.poly.specs.Elements.{ops as poly_ops, coding as poly_coding};
 ghost use Rattle.poly.specs.Laws.{laws as poly_laws, codes as poly_codes};
@@ -20,7 +20,7 @@ impl<const N: usize, const M: u16> Kind for Poly<N, M> {
 
     const WORDS: usize = N;
 
-    // The greater of M and 1, without `max`: a constant's value calls no function.
+    // The greater of M and 1, without `max`, which is no `const fn`.
     const LIMIT: u32 = if M == 0 { 1 } else { M as u32 };
 
     ghost WORDS = { N };

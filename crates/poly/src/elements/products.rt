@@ -1,4 +1,4 @@
-// Products of elements.
+//! Products of elements.
 ghost use Rattle.std.specs.Prelude.{◌≡◌, ◌+◌, ◌%◌, ◌<◌, ◌≤◌, length};
 ghost use Rattle.poly.specs.Elements.{poly, ops};
 ghost use Rattle.poly.specs.Lanes.{folded_at};
@@ -14,8 +14,8 @@ impl<const N: usize, const M: u16> Poly<N, M>
 where
     Self: Served<N, M>,
 {
-    // The product of two elements: that of the polynomials, exponents reduced modulo N + 1, then the coefficient of X^N
-    // subtracted from every other. So elements are the polynomials modulo 1 + X + ... + X^N and M.
+    /// The product of two elements: that of the polynomials, exponents reduced modulo N + 1, then the coefficient of X^N
+    /// subtracted from every other. So elements are the polynomials modulo 1 + X + ... + X^N and M.
     pub fn product(&self, other: &Self) -> Self
         ensures value { result ≡ (ops N M).times self.now other.now }
         ensures quotient { Quotient N M }
@@ -23,6 +23,7 @@ where
         self.multiplied(other)
     }
 
+    // Apart from `product`: public functions stay thin, so that an edit of one is refused at its promise.
     fn multiplied(&self, other: &Self) -> Self
         ensures value { result ≡ (ops N M).times self.now other.now }
         ensures quotient { Quotient N M }

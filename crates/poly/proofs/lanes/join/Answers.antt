@@ -1,5 +1,5 @@
 -- What is left of the middle is added half way.
-use Rattle.std.proofs.Common.{◌≡◌, ◌+◌, ◌-◌, ◌/◌, ◌%◌, length, arith, rules}
+use Rattle.std.proofs.Common.{◌≡◌, ◌+◌, ◌-◌, ◌/◌, ◌%◌, ◌<◌, length, arith, rules}
 use Rattle.poly.specs.Lists.{at}
 use Rattle.poly.proofs.Halves.{joined}
 use Rattle.poly.proofs.lanes.join.Goals as goal
@@ -16,7 +16,9 @@ returns c =
     let left : length l ≡ length m = search rules in
     joined (length m) w p m l s
     (omega arith) (omega (arith, c.requires)) part (omega arith) left
-    (λ k z. let taken : (at l k + at c.split_at.result.0.now k + at c.split_at.result.1.now k) % 65536 ≡ at m k % 65536 =
-    search (rules, c.put_each.ensures k (omega (arith, left))) in
-    omega (arith, taken, c.split_at.ensures.by_index.1 k 0 z, c.split_at.ensures.by_index.2 k 0))
-    (λ k z. search (rules, c.put_each-2.ensures k z))
+    (λ k z. let low : at c.split_at.result.0.now k < 65536 = search rules in
+    let high : at c.split_at.result.1.now k < 65536 = search rules in
+    let e = at m k + (65536 - at c.split_at.result.0.now k) + (65536 - at c.split_at.result.1.now k) in
+    let taken : at l k % 65536 ≡ e % 65536 = search rules in
+    omega (arith, taken, low, high, c.split_at.ensures.by_index.1 k 0 z, c.split_at.ensures.by_index.2 k 0))
+    (λ k z. search rules)

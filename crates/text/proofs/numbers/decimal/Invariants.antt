@@ -1,4 +1,4 @@
--- The invariant of `decimal`: the value of the digits so far, or the largest of 128 bits.
+-- The invariant of `decimal`: the value of the digits so far, or `u128::MAX`.
 use Rattle.std.proofs.Common.{◌≡◌, ◌-◌, ◌^◌, min, take, drop}
 use Rattle.std.specs.Str.{all_ascii_digits}
 use Rattle.text.specs.Numbers.{value_of}
