@@ -33,8 +33,8 @@ fn rows(c: &[u16; 8], b: &[u16], k: usize) -> u16
     sum
 }
 
-// Puts f(k, x) in place of each x, where k is its place: what d gives at k, where f can only answer that modulo 2^16. Callers
-// index at k the lists that they read: of what is written through `iter_mut().zip(..)` a proof knows only the length.
+// Puts f(k, x) in place of each x, where k is its place: modulo 2^16 a number e, where f can answer nothing else. Callers index
+// at k the lists that they read: of what is written through `iter_mut().zip(..)` a proof knows only the length.
 fn put_each<F: Fn(usize, u16) -> u16>(xs: &mut [u16], f: F)
     requires { (k x : ℕ) → k < length xs.old → F.pre f k x }
     ensures { (k e : ℕ) → k < length xs.new → ((y : ℕ) → F.post f k (at xs.old k) y → y % 65536 ≡ e % 65536) → at xs.new k % 65536 ≡ e % 65536 }
