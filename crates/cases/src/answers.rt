@@ -50,7 +50,7 @@ fn one(heap: Global, mut line: Reader) -> Result<String, Trouble>
     }
 }
 
-// The result in the kind that is asked for.
+// The result in the kind that is asked for. Apart from `one`, whose proof is about lines alone.
 fn by_name(heap: Global, question: &Question) -> Result<String, Trouble>
     ensures { UnlessMemory (ByName (contents question.now)) result }
 {

@@ -8,7 +8,7 @@ pub enum Operation {
     Times,
 }
 
-/// No operation has this name.
+/// No operation has this name. As `UnknownName` of the kinds: a type of its own says what was not known.
 #[derive(Clone, Copy, PartialEq, Eq, Debug)]
 pub struct UnknownOperation;
 

@@ -25,7 +25,8 @@ pub(crate) fn computed<K: Ring>(heap: Global, question: &Question) -> Result<K, 
     result.map_err(|refusal| Trouble::Refused { at, refusal })
 }
 
-// The product of the two elements with these words, which it reads into the list.
+// The product of the two elements with these words, which it reads into the list. Beside the office's `summed`, with which it
+// shares `read_list` alone.
 fn product<K: Ring>(words: &[u16], operands: &mut [K]) -> Result<K, Refusal>
     requires { length operands.old ≡ 2 }
     ensures { Computes K.ops K.coding Times words.now result }

@@ -68,6 +68,7 @@ pub fn show_each<T: Copy, F: Fn(usize) -> T>(n: usize, out: &mut [T], f: F) -> R
     if out.len() != n {
         return Err(Refusal::BufferLength);
     }
+    // By place, as f asks.
     for (i, value) in out.iter_mut().enumerate() {
         *value = f(i);
     }

@@ -20,6 +20,7 @@ pub enum Name {
     W,
 }
 
+// Each case once: no derive lists them.
 const ALL: [Name; 11] = [
     Name::Q3,
     Name::Q509,

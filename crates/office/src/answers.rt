@@ -20,7 +20,7 @@ pub fn answer(heap: Global, input: &[u8]) -> Result<String, Trouble>
     reported(heap, &request)
 }
 
-// The report for the kind that is asked for.
+// The report for the kind that is asked for. Apart from `answer`, which stays thin.
 fn reported(heap: Global, request: &Request) -> Result<String, Trouble>
     ensures { ByName request.now.header request.now.words.items result }
 {
@@ -43,7 +43,7 @@ impl Work for Reporting<'_> {
 
     fn polynomials<P: Centred + Ring>(self) -> Result<String, Trouble> {
         let Reporting { heap, request } = self;
-        let sum: P = recombined(heap, &request.words, request.header.shares)?;
+        let sum: P = recombined(heap, request)?;
         let mut text = element_lines(heap, request.header, &sum)?;
         let numbers = centred_numbers(heap, &sum)?;
         push_centred(&mut text, &numbers)?;
@@ -63,6 +63,7 @@ fn centred_numbers<P: Centred>(heap: Global, x: &P) -> Result<Vec<i16>, AllocErr
     let mut numbers = vec![in heap; 0; P::WORDS]?;
     match x.centred(&mut numbers) {
         Ok(()) => Ok(numbers),
+        // The buffer is as long as the words, so no refusal comes.
         Err(_) => unreachable(),
     }
 }
@@ -71,6 +72,6 @@ fn centred_numbers<P: Centred>(heap: Global, x: &P) -> Result<Vec<i16>, AllocErr
 fn bits<K: Kind>(heap: Global, request: &Request) -> Result<String, Trouble>
     ensures { Bits K.ops K.coding request.now.header request.now.words.items result }
 {
-    let sum: K = recombined(heap, &request.words, request.header.shares)?;
+    let sum: K = recombined(heap, request)?;
     Ok(element_lines(heap, request.header, &sum)?)
 }

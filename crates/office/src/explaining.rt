@@ -6,6 +6,7 @@ use crate::troubles::Trouble;
 use programs::Placed;
 use std::fmt;
 
+// Messages and offsets of its own, as each program has troubles of its own.
 impl fmt::Display for Trouble {
     ghost output = { λ t. Some (message t) };
 

@@ -32,10 +32,11 @@ impl Header {
 fn limited(at: usize, asked: Option<Header>) -> Result<Header, Trouble>
     ensures { result ≡ limited at asked }
 {
-    match asked {
-        None => Err(Trouble::Header { at }),
-        Some(header) if header.shares <= 64 => Ok(header),
-        Some(_) => Err(Trouble::ShareCount { at }),
+    let header = asked.ok_or(Trouble::Header { at })?;
+    if header.shares <= 64 {
+        Ok(header)
+    } else {
+        Err(Trouble::ShareCount { at })
     }
 }
 

@@ -2,16 +2,17 @@
 ghost use Rattle.std.specs.Prelude.{length};
 ghost use Rattle.office.specs.Sums.{Summed, Recombined};
 
+use crate::requests::Request;
 use crate::troubles::Trouble;
 use kinds::{Kind, Refusal, read_list, recombine};
 use std::alloc::Global;
 
-// The sum of so many shares with these words.
-pub(crate) fn recombined<K: Kind>(heap: Global, words: &[u16], shares: usize) -> Result<K, Trouble>
-    ensures { Recombined K.ops K.coding shares words.now result }
+// The sum of the shares that are sent.
+pub(crate) fn recombined<K: Kind>(heap: Global, request: &Request) -> Result<K, Trouble>
+    ensures { Recombined K.ops K.coding request.now.header.shares request.now.words.items result }
 {
-    let mut list = vec![in heap; K::zero(); shares]?;
-    Ok(summed(words, &mut list)?)
+    let mut list = vec![in heap; K::zero(); request.header.shares]?;
+    Ok(summed(&request.words, &mut list)?)
 }
 
 // The sum of the elements with these words, which it reads into the list.

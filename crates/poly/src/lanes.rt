@@ -57,6 +57,7 @@ fn padded(b: &[u16]) -> [u16; PADDED]
     requires { length b.now ≤ LONGEST }
     ensures { Padded b.now result }
 {
+    // Of fixed length, as all room here.
     let mut padded = [0; PADDED];
     padded[8..8 + b.len()].copy_from_slice(b);
     padded
@@ -70,6 +71,7 @@ fn by_rows(a: &[u16], b: &[u16], p: &mut [u16])
     let padded = padded(b);
     p.fill(0);
     let (chunks, _) = a.as_chunks::<8>();
+    // By place: the windows of p overlap, and no iterator lends overlapping windows to write in.
     for (k, c) in chunks.iter().enumerate() {
         add_rows(c, &padded, &mut p[8 * k..8 * k + b.len() + 8]);
     }
@@ -138,6 +140,7 @@ pub(crate) fn put_product<const N: usize>(a: &[u16; N], b: &[u16; N], p: &mut [u
     let n = N / 64 * 64 + 64;
     let a = padded(a);
     let b = padded(b);
+    // Of fixed length, as all room here.
     let mut work = [0; WORK];
     multiply(&a[8..8 + n], &b[8..8 + n], &mut p[0..2 * n], &mut work);
 }

@@ -30,7 +30,7 @@ impl<'a> LineReader<'a> {
         LineReader { text, at: 0 }
     }
 
-    /// The tokens of the next line, or `None` at the end. Kept beside `next`: callers know it by this name.
+    /// The tokens of the next line, or `None` at the end. Kept beside `next`, as a public name that stays.
     pub fn line(&mut self) -> Option<Reader<'a>>
         ensures { YieldsFirstBy to_come lines_to_come self.old result self.new }
     {

@@ -17,6 +17,7 @@ fn decimal(text: &[u8]) -> Option<u128>
         return None;
     }
     let mut value: u128 = 0;
+    // A loop: `try_fold` would put the same two lines into a closure.
     for b in text {
         let digit = char::from(*b).to_digit(10)?;
         value = value.saturating_mul(10).saturating_add(u128::from(digit));

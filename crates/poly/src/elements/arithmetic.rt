@@ -25,8 +25,8 @@ impl<const N: usize, const M: u16> Poly<N, M> {
         }
     }
 
-    // The closures here capture slices: one that captured a struct whose size is a const parameter would need clauses of
-    // its own.
+    // The closures here read slices at the place that they are asked for; one that captured a struct whose size is a const
+    // parameter would need clauses of its own.
     pub(super) fn sum(&self, other: &Self) -> Self
         ensures { result ≡ poly N M (sum_at self.now other.now) }
     {

@@ -9,6 +9,7 @@ use crate::served::Served;
 use kinds::words::word_at;
 use kinds::{Kind, Ring};
 
+// Each method is a line over a proved function, so that an edit of it is refused at its promise.
 impl<const N: usize, const M: u16> Kind for Poly<N, M> {
     ghost ops = { poly_ops N M };
 

@@ -28,6 +28,7 @@ where
         ensures value { result ≡ (ops N M).times self.now other.now }
         ensures quotient { Quotient N M }
     {
+        // Of fixed length: products are called from C, with no allocator.
         let mut sums = [0; PRODUCT];
         put_product(&self.coeffs, &other.coeffs, &mut sums);
         Self::folded(&sums)
