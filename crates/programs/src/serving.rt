@@ -2,11 +2,15 @@
 ghost use Rattle.std.specs.Prelude.{◌≡◌, List, ℕ, IfOk, IfSome};
 ghost use Rattle.programs.specs.Explaining.{told};
 ghost use Rattle.programs.specs.Serving.{Writes};
+ghost use Rattle.std.specs.Io.KnownBytes.{Appends};
 
 use crate::explaining::{Explained, Placed};
 use std::alloc::Global;
 use std::io::{self, Read, Write};
 use std::process::ExitCode;
+
+// How much is written at once.
+const PIECE: usize = 1024;
 
 /// Answers all that `input` gives: the text goes to `output`; what is wrong goes to `errors`, as a line, and the status says so.
 /// Where reading or writing fails, nothing is said of what was written till then.
@@ -24,11 +28,12 @@ pub fn serve<
     let mut bytes = Vec::new(heap);
     input.read_to_end(&mut bytes)?;
     let input = bytes.as_slice();
-    write_answer(input, answer(heap, input), output, errors)
+    write_answer(heap, input, answer(heap, input), output, errors)
 }
 
 // Writes the answer to this input.
 fn write_answer<T: Placed + Drop, O: Write, E: Write>(
+    heap: Global,
     input: &[u8],
     answer: Result<String, T>,
     output: &mut O,
@@ -38,12 +43,27 @@ fn write_answer<T: Placed + Drop, O: Write, E: Write>(
 {
     match answer {
         Ok(text) => {
-            write!(output, "{text}")?;
+            write_pieces(text.as_bytes(), output)?;
             Ok(ExitCode::SUCCESS)
         }
         Err(trouble) => {
-            writeln!(errors, "{}", Explained { input, trouble })?;
+            let told = Explained { input, trouble };
+            // One write for the whole line, so that no other program's line gets between; where there is no memory for it, in parts.
+            match format!(in heap; "{told}\n") {
+                Ok(line) => errors.write_all(line.as_bytes())?,
+                Err(_) => writeln!(errors, "{told}")?,
+            }
             Ok(ExitCode::FAILURE)
         }
     }
+}
+
+// Writes the bytes in pieces of at most PIECE, which every kind of output takes: a socket of packets refuses long ones.
+fn write_pieces<O: Write>(bytes: &[u8], output: &mut O) -> io::Result<()>
+    ensures { IfOk result (λ _. Appends (O.contents output.old) (O.contents output.new) bytes.now) }
+{
+    for piece in bytes.chunks(PIECE) {
+        output.write_all(piece)?;
+    }
+    Ok(())
 }

@@ -3,6 +3,7 @@ use kinds::Refusal;
 use office::{Explained, Trouble, answer};
 use programs::serve;
 use std::alloc::Global;
+use std::io::{self, Write};
 use std::process::ExitCode;
 use std::test::Fail;
 use text::{Fault, Problem};
@@ -53,7 +54,7 @@ fn bad_text_is_placed(rt: HostRuntime) -> Result<(), Fail> {
         problem: Problem::NotANumber,
     });
     assert_eq!(rt; refusal(heap, b"W 1\n1 \x00"), Some(fault));
-    let explained = Explained {
+    let explained: Explained<'_> = Explained {
         input: b"W 1\n1 \x00",
         trouble: fault,
     };
@@ -89,5 +90,44 @@ fn a_trouble_is_told_as_a_line(rt: HostRuntime) -> Result<(), Fail> {
         errors.as_slice(),
         b"line 2, column 3: not a decimal number\n".as_slice()
     );
+    Ok(())
+}
+
+// A stream that keeps how often it is written to, and the longest piece.
+#[derive(Drop)]
+struct Counting {
+    writes: usize,
+    longest: usize,
+}
+
+impl Write for Counting {
+    fn write(&mut self, piece: &[u8]) -> io::Result<usize> {
+        self.writes = self.writes.saturating_add(1);
+        self.longest = self.longest.max(piece.len());
+        Ok(piece.len())
+    }
+
+    fn flush(&mut self) -> io::Result<()> {
+        Ok(())
+    }
+}
+
+#[test]
+fn a_line_is_one_write_and_a_long_text_some(rt: HostRuntime) -> Result<(), Fail> {
+    let mut output = Counting {
+        writes: 0,
+        longest: 0,
+    };
+    let mut errors = Counting {
+        writes: 0,
+        longest: 0,
+    };
+    let mut input = b"W 1\n1 -".as_slice();
+    serve(rt.alloc(), answer, &mut input, &mut output, &mut errors)?;
+    assert_eq!(rt; (output.writes, errors.writes), (0, 1));
+    let mut input = b"T 509 0".as_slice();
+    serve(rt.alloc(), answer, &mut input, &mut output, &mut errors)?;
+    assert_eq!(rt; (output.writes, output.longest), (3, 1024));
+    assert_eq!(rt; errors.writes, 1);
     Ok(())
 }
