@@ -1,12 +1,27 @@
 -- A list up to the first byte that passes a test, and from there on.
-use Rattle.std.proofs.Common.{◌≡◌, ℕ, ◌+◌, suc, Bool, true, false, not, cond, List, [], ◌∷◌, length, take, drop, ap, ◌∙◌, refl, arith}
+use Rattle.std.proofs.Common.{◌≡◌, ℕ, ◌+◌, ◌-◌, ◌<◌, ◌≤◌, suc, Bool, true, false, not, cond, List, [], ◌∷◌, length, get_or, take, drop, ap, ◌∙◌, refl, arith}
 use Rattle.std.specs.List.{position_or_len, prefix_len}
-use Rattle.std.proofs.lemmas.List.{drop-drop}
+use Rattle.std.proofs.lemmas.List.{drop-drop, drop_all, get_or-drop, length-drop}
 use Rattle.std.proofs.lemmas.List.Folds.{length-prefix_len}
+use Rattle.std.proofs.lemmas.List.Sums.{position_or_len_is}
 
 -- as many are taken as pass before the first that fails
 pub taken_len : {X : Type 0} (test : X → Bool) (xs : List X) → length (take (prefix_len test xs) xs) ≡ prefix_len test xs
 taken_len test xs = length-prefix_len test xs
+
+-- none of the bytes from offset `from` to i passes, and the one at i does where there is one
+pub first_at : (test : ℕ → Bool) (xs : List ℕ) (from i : ℕ) → from ≤ i → i ≤ length xs → ((k : ℕ) → from ≤ k → k < i → test (get_or xs k 0) ≡ false) → (i < length xs → test (get_or xs i 0) ≡ true) → i ≡ from + position_or_len test (drop from xs)
+first_at test xs from i behind within none here =
+    let n = i - from in
+    let is : position_or_len test (drop from xs) ≡ n =
+    position_or_len_is test (drop from xs) n 0 (omega (arith, length-drop from xs))
+    (λ k h. ap test (get_or-drop from xs k 0) ∙ none (from + k) (omega arith) (omega arith))
+    (λ h. ap test (get_or-drop from xs n 0 ∙ ap (λ j. get_or xs j 0) (omega arith)) ∙ here (omega (arith, length-drop from xs))) in
+    omega (arith, is)
+
+-- past the end none is ahead
+pub none_ahead : {X : Type 0} (test : X → Bool) (xs : List X) (from : ℕ) → length xs ≤ from → from ≡ from + position_or_len test (drop from xs)
+none_ahead test xs from past = let none : position_or_len test (drop from xs) ≡ 0 = ap (position_or_len test) (drop_all from xs past) in omega (arith, none)
 
 -- F at a list whose first byte has offset i: the same at what follows a byte that fails, and G where one passes or none is left
 module _ {Y : Type 0} (test : ℕ → Bool) (F G : ℕ → List ℕ → Y)

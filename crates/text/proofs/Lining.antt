@@ -1,7 +1,8 @@
 -- A line and what comes after it, by the definitions of specs/Lines.antt.
-use Rattle.std.proofs.Common.{◌≡◌, ℕ, ◌+◌, ◌<◌, true, false, not, List, ◌∷◌, length, take, drop, ◌==◌, sym, refl, ap, ◌∙◌, arith}
+use Rattle.std.proofs.Common.{◌≡◌, ℕ, ◌+◌, ◌<◌, ◌≤◌, min, true, false, not, List, [], ◌∷◌, length, take, drop, ◌==◌, sym, refl, ap, ◌∙◌, arith, inl, inr}
 use Rattle.std.specs.List.{position_or_len}
-use Rattle.std.proofs.lemmas.List.{at_drop_more, drop-drop, drop-take, length-take, length-drop}
+use Rattle.std.proofs.lemmas.Bool.{cases_lt}
+use Rattle.std.proofs.lemmas.List.{at_drop_more, drop_all, drop-drop, drop-take, length-take, length-drop}
 use Rattle.std.proofs.lemmas.List.Folds.{length-prefix_len}
 use Rattle.std.proofs.lemmas.List.Sums.{prefix_len-le-length}
 use Rattle.text.proofs.Cutting.{cut_at}
@@ -36,3 +37,11 @@ module _ (bs : List ℕ) (i : ℕ) where
         let bytes : first_line (drop i bs) ≡ drop i (take (i + n) bs) = ap (λ k. take k (drop i bs)) (sym len_is) ∙ sym (drop-take i n bs) in
         let after : i + length (first_line (drop i bs)) + 1 ≡ length (take (i + n) bs) + 1 = omega (arith, is, line_ends) in
         line_here h ∙ (λ k. tokens_from false i (bytes k) ∷ (past_line ∙ ap (λ j. lines_at j bs) after) k)
+
+-- past the end there are as few lines as at the end
+pub lines_capped : (i : ℕ) (bs : List ℕ) → lines_at (min i (length bs)) bs ≡ lines_at i bs
+lines_capped i bs =
+    elim (cases_lt (length bs) i) [
+      | inl past ↦ let none : (j : ℕ) → length bs ≤ j → lines_at j bs ≡ [] = λ j h. ap (lines_from false j) (drop_all j bs h) in none _ (omega arith) ∙ sym (none i (omega arith))
+      | inr within ↦ ap (λ j. lines_at j bs) (omega arith)
+    ]

@@ -1,12 +1,11 @@
 -- A token and what stands around it, by the definitions of specs/Tokens.antt.
-use Rattle.std.proofs.Common.{◌≡◌, ℕ, ◌+◌, ◌<◌, Some, None, Bool, true, false, not, List, [], ◌∷◌, length, get_or, drop, sym, refl, ap, ◌∙◌, arith}
+use Rattle.std.proofs.Common.{◌≡◌, ℕ, ◌+◌, ◌<◌, ◌≤◌, Bool, true, false, not, List, [], ◌∷◌, length, get_or, drop, sym, refl, ap, ◌∙◌, arith}
 use Rattle.std.specs.Char.{is_ascii_whitespace}
-use Rattle.std.specs.List.{position, position_or_len}
+use Rattle.std.specs.List.{position_or_len}
 use Rattle.std.proofs.lemmas.Bool.{cond-true, cond-false, not-true, not-false}
-use Rattle.std.proofs.lemmas.Grind.{common_steps}
 use Rattle.std.proofs.lemmas.List.{at_drop_more, drop_all, get_or-drop, length-drop}
 use Rattle.std.proofs.lemmas.List.Folds.{length-prefix_len}
-use Rattle.std.proofs.lemmas.List.Quantifiers.{position-Some}
+use Rattle.std.proofs.lemmas.List.Sums.{passes_at_first}
 use Rattle.text.proofs.Cutting.{cut_at}
 use Rattle.text.specs.Tokens.{run, tokens_from, tokens_at}
 
@@ -39,19 +38,19 @@ module _ (bs : List ℕ) (i : ℕ) where
       ∙ token_starts i (get_or bs i 0) (drop (i + 1) bs) e
       ∙ sym (at_drop_more (λ l. record { bytes = run l; offset = i } ∷ tokens_from true i l) bs i 0 h)
 
-module _ (bs : List ℕ) (i : ℕ) where
+module _ (bs : List ℕ) (i a : ℕ) (is : a ≡ i + position_or_len in_token (drop i bs)) where
   -- where no byte of a token is left, no token is
-  pub no_token : position in_token (drop i bs) ≡ None → tokens_at i bs ≡ []
-  no_token none = past_white bs i ∙ ap (tokens_from false _) (drop_all _ bs (grind (arith, common_steps)))
+  pub no_token : length bs ≤ a → tokens_at i bs ≡ []
+  no_token none = past_white bs i ∙ ap (tokens_from false _) (drop_all _ bs (omega (arith, is, none)))
 
-  -- the first token starts n bytes on
-  pub token_next : (n : ℕ) (word : List ℕ) → position in_token (drop i bs) ≡ Some n → word ≡ run (drop (i + n) bs) → tokens_at i bs ≡ record { bytes = word; offset = i + n } ∷ tokens_at (i + n + length word) bs
-  token_next n word found is =
-      let at : position_or_len in_token (drop i bs) ≡ n = grind (arith, common_steps) in
-      let starts = position-Some in_token (drop i bs) n 0 found in
-      let other : is_ascii_whitespace (get_or bs (i + n) 0) ≡ false = ap is_ascii_whitespace (sym (get_or-drop i bs n 0)) ∙ not-true _ starts.1 in
+  -- the first token starts at a
+  pub token_next : (word : List ℕ) → a < length bs → word ≡ run (drop a bs) → tokens_at i bs ≡ record { bytes = word; offset = a } ∷ tokens_at (a + length word) bs
+  token_next word h word_is =
+      let n = position_or_len in_token (drop i bs) in
+      let starts : in_token (get_or (drop i bs) n 0) ≡ true = passes_at_first in_token (drop i bs) 0 (omega (arith, length-drop i bs, is, h)) in
+      let other : is_ascii_whitespace (get_or bs a 0) ≡ false = ap (λ j. is_ascii_whitespace (get_or bs j 0)) is ∙ ap is_ascii_whitespace (sym (get_or-drop i bs n 0)) ∙ not-true _ starts in
       past_white bs i
-      ∙ ap (λ k. tokens_at (i + k) bs) at
-      ∙ token_here bs (i + n) (omega (arith, length-drop i bs, starts.0)) other
-      ∙ ap (λ ws. record { bytes = run (drop (i + n) bs); offset = i + n } ∷ ws) (past_token bs (i + n))
-      ∙ ap (λ l. record { bytes = l; offset = i + n } ∷ tokens_at (i + n + length l) bs) (sym is)
+      ∙ ap (λ j. tokens_at j bs) (sym is)
+      ∙ token_here bs a h other
+      ∙ ap (λ ws. record { bytes = run (drop a bs); offset = a } ∷ ws) (past_token bs a)
+      ∙ ap (λ l. record { bytes = l; offset = a } ∷ tokens_at (a + length l) bs) (sym word_is)

@@ -1,7 +1,23 @@
 //! Where a text is cut.
-ghost use Rattle.std.specs.Prelude.{◌≡◌, ℕ, ◌≤◌, Bool, length};
-ghost use Rattle.std.specs.List.{before_first};
+ghost use Rattle.std.specs.Prelude.{◌≡◌, ℕ, ◌+◌, ◌≤◌, Bool, drop, length};
+ghost use Rattle.std.specs.List.{before_first, position_or_len};
 ghost use Rattle.text.specs.Cuts.{IsTest};
+
+// The offset of the first byte from `from` on that ends them, or of the end.
+// By offset, as tokens are found: with `position` on the bytes ahead, each byte and each token takes a quarter longer.
+pub(crate) fn end<F: Fn(u8) -> bool>(text: &[u8], from: usize, ends: F) -> usize
+    requires { F.IsAlwaysCallable ends }
+    ensures offset { (p : ℕ → Bool) → IsTest (F.post ends) p → result ≡ from + position_or_len p (drop from text.now) }
+    ensures within { from ≤ length text.now → result ≤ length text.now }
+    ensures from { from ≤ result }
+{
+    for i in from..text.len() {
+        if ends(text[i]) {
+            return i;
+        }
+    }
+    from.max(text.len())
+}
 
 // The bytes before the first that ends them, or all.
 pub(crate) fn before<F: Fn(u8) -> bool>(text: &[u8], ends: F) -> &[u8]
@@ -9,6 +25,5 @@ pub(crate) fn before<F: Fn(u8) -> bool>(text: &[u8], ends: F) -> &[u8]
     ensures bytes { (p : ℕ → Bool) → IsTest (F.post ends) p → result.now ≡ before_first p text.now }
     ensures within { length result.now ≤ length text.now }
 {
-    let len = text.iter().take_while(|b| !ends(**b)).count();
-    &text[..len]
+    &text[..end(text, 0, ends)]
 }

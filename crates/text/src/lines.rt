@@ -31,11 +31,13 @@ impl<'a> LineReader<'a> {
     }
 
     /// The tokens of the next line, or `None` at the end. Kept beside `next`, as a public name that stays.
+    #[tactic(auto, using(crate::proofs::Lining::lines_capped))]
     pub fn line(&mut self) -> Option<Reader<'a>>
         ensures { YieldsFirstBy to_come lines_to_come self.old result self.new }
     {
         let line = self.peek()?;
-        self.at = line.text.len() + 1;
+        // Behind the line feed, or at the end where there is none.
+        self.at = (line.text.len() + 1).min(self.text.len());
         Some(line)
     }
 

@@ -1,11 +1,9 @@
 //! Tokens: the longest runs of bytes that are not white space.
-ghost use Rattle.std.specs.Prelude.{◌≡◌, ◌+◌, ◌≤◌, [], ◌∷◌, length, not, IfSome, MatchOption};
-ghost use Rattle.std.specs.Char.{is_ascii_whitespace};
+ghost use Rattle.std.specs.Prelude.{◌≡◌, ◌+◌, ◌≤◌, [], ◌∷◌, length, IfSome, MatchOption};
 ghost use Rattle.std.specs.Iterator.{YieldsFirstBy, item_count};
-ghost use Rattle.std.specs.List.{position};
 ghost use Rattle.text.specs.Tokens.{tokens_at, tokens_of, to_come, word};
 
-use crate::cuts::before;
+use crate::cuts::end;
 
 /// A token's bytes, and the offset of the first of them in the whole input.
 #[derive(Clone, Copy, PartialEq, Eq, Debug)]
@@ -19,13 +17,6 @@ pub struct Token<'a> {
 pub struct Reader<'a> {
     pub text: &'a [u8],
     pub at: usize,
-}
-
-// Where the first token starts.
-fn start(text: &[u8]) -> Option<usize>
-    ensures { result ≡ position (λ b. not (is_ascii_whitespace b)) text.now }
-{
-    text.iter().position(|b| !b.is_ascii_whitespace())
 }
 
 impl<'a> Reader<'a> {
@@ -53,9 +44,11 @@ impl<'a> Reader<'a> {
             (λ t. to_come self.now ≡ word t ∷ tokens_at (t.at + length t.text.now) self.now.text.now) }
         ensures within { IfSome result (λ t. t.at + length t.text.now ≤ length self.now.text.now) }
     {
-        let ahead = self.text.get(self.at..)?;
-        let at = self.at + start(ahead)?;
-        let text = before(&self.text[at..], |b| b.is_ascii_whitespace());
+        let at = end(self.text, self.at, |b| !b.is_ascii_whitespace());
+        if at >= self.text.len() {
+            return None;
+        }
+        let text = &self.text[at..end(self.text, at, |b| b.is_ascii_whitespace())];
         Some(Token { text, at })
     }
 }

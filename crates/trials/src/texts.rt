@@ -73,6 +73,16 @@ fn gives_lines_and_tokens(rt: HostRuntime) {
 }
 
 #[test]
+fn a_reader_of_lines_stops_at_the_end(rt: HostRuntime) {
+    let mut lines = LineReader::new(b"a\nb");
+    assert!(rt; lines.line().is_some());
+    assert_eq!(rt; lines.at, 2);
+    assert!(rt; lines.line().is_some());
+    assert_eq!(rt; lines.at, 3);
+    assert!(rt; lines.line().is_none());
+}
+
+#[test]
 fn finds_places(rt: HostRuntime) -> Result<(), Fail> {
     let text = b"a\n\nbc";
     assert_eq!(rt; Place::of(text, 0), Place { line: 1, column: 1 });

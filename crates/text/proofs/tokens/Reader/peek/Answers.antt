@@ -1,24 +1,20 @@
 -- The first token, or none.
-use Rattle.std.proofs.Common.{◌≡◌, ◌+◌, drop, sym, ap, ◌∙◌, rules, tests}
+use Rattle.std.proofs.Common.{◌≡◌, ◌+◌, ◌-◌, take, drop, ap, rules, tests, arith}
 use Rattle.std.specs.Char.{is_ascii_whitespace}
-use Rattle.std.specs.List.{position}
-use Rattle.std.proofs.lemmas.List.{take_rest}
+use Rattle.std.specs.List.{position_or_len}
 use Rattle.text.specs.Tokens.{run}
 use Rattle.text.proofs.Steps.{in_token, no_token, token_next}
 use Rattle.text.proofs.tokens.Reader.peek.Goals as goal
 
-pub returns-in_err-at-clause-first : goal.returns-in_err-at-clause-first
-returns-in_err-at-clause-first c =
-    let bs = c.args.self.now.text.now in
-    let i = c.args.self.now.at in
-    let found : c.start.result ≡ position in_token (drop i bs) = search (rules, take_rest) in
-    rw c.from_residual-in_err-at.ensures (no_token bs i (sym found ∙ c.in_err-at.was))
+pub returns-then-at-self-clause-first : goal.returns-then-at-self-clause-first
+returns-then-at-self-clause-first c =
+    no_token c.args.self.now.text.now c.args.self.now.at c.end-at.result
+    (c.end-at.ensures.offset in_token (λ b r k. search (rules, tests))) c.if-at-self.true
 
 pub returns-clause-first : goal.returns-clause-first
 returns-clause-first c =
     let bs = c.args.self.now.text.now in
-    let i = c.args.self.now.at in
-    let n = c.in_ok-at.field-0 in
-    let found : c.start.result ≡ position in_token (drop i bs) = search (rules, take_rest) in
-    let word : c.before-text.result.now ≡ run (drop (i + n) bs) = c.before-text.ensures.bytes is_ascii_whitespace (λ b r k. search (rules, tests)) ∙ ap run (take_rest bs (i + n)) in
-    token_next bs i n _ (sym found ∙ c.in_ok-at.was) word
+    let a = c.end-at.result in
+    let cut : c.end.result ≡ a + position_or_len is_ascii_whitespace (drop a bs) = c.end.ensures.offset is_ascii_whitespace (λ b r k. search (rules, tests)) in
+    let word : take (c.end.result - a) (drop a bs) ≡ run (drop a bs) = ap (λ n. take n (drop a bs)) (omega (arith, cut)) in
+    token_next bs c.args.self.now.at a (c.end-at.ensures.offset in_token (λ b r k. search (rules, tests))) _ c.if-at-self.false word
