@@ -39,7 +39,7 @@ Multiplies R C xs ys before after (Err e) = NoProduct C xs ys before e × (after
 -- 0 where all went well, or the refusal's number
 abbrev pub code : Result (Unit {0}) Refusal → ℕ
 code (Ok u) = 0
-code (Err e) = number e
+code (Err e) = (number e).0
 
 -- What multiplying answers as a number.
 abbrev pub Answers : {M : Type 0} → Ops M → Coding M → List ℕ → List ℕ → List ℕ → List ℕ → ℕ → Type 0

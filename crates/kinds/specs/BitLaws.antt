@@ -16,6 +16,10 @@ use Rattle.kinds.specs.declared.bitwise.W.{W}
 pub same_bits : (x y : W) → x.bits ≡ y.bits → x ≡ y
 same_bits x y e = λ i. record { bits = e i; fits = is_prop→PathP (λ j. e j < 2 ^ 32) (λ j. le_prop) x.fits y.fits i }
 
+-- the element of a number of 32 bits has these bits
+pub of_bits_is : (x : W) (b : ℕ) → b < 2 ^ 32 → x.bits ≡ b → x ≡ of_bits b
+of_bits_is x b small e = same_bits x (of_bits b) (omega arith)
+
 xor_bits : (x y : W) → (xor x y).bits ≡ bit_xor x.bits y.bits
 xor_bits x y = mod-eq_of_lt (xor_lt 32 x.bits y.bits x.fits y.fits)
 

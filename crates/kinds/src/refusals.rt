@@ -37,7 +37,7 @@ pub enum Refusal {
 impl Refusal {
     /// The number that the refusal is known by: a view of it, for the C interface and for what is printed.
     pub fn number(&self) -> u8
-        ensures { result ≡ number self.now }
+        ensures { result ≡ (number self.now).0 }
     {
         match self {
             Refusal::WordCount => 1,
