@@ -2,7 +2,7 @@
 #![tactic(auto)]
 
 pub mod answers;
-mod explaining;
+pub mod explaining;
 mod operations;
 mod questions;
 mod results;
@@ -10,5 +10,5 @@ mod rows;
 pub mod troubles;
 
 pub use answers::answer;
-pub use programs::Explained;
+pub use explaining::Explained;
 pub use troubles::Trouble;

@@ -6,6 +6,9 @@ use crate::troubles::Trouble;
 use programs::Placed;
 use std::fmt;
 
+/// A trouble, with the input that it comes from.
+pub type Explained<'a> = programs::Explained<'a, Trouble>;
+
 // Messages and offsets of its own, as each program has troubles of its own.
 impl fmt::Display for Trouble {
     ghost output = { λ t. Some (message t) };

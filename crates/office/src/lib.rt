@@ -2,7 +2,7 @@
 #![tactic(auto)]
 
 pub mod answers;
-mod explaining;
+pub mod explaining;
 mod headers;
 mod recombining;
 mod report;
@@ -10,6 +10,6 @@ mod requests;
 pub mod troubles;
 
 pub use answers::answer;
+pub use explaining::Explained;
 pub use names::Name;
-pub use programs::Explained;
 pub use troubles::Trouble;
