@@ -9,7 +9,7 @@ use std::alloc::Global;
 use std::io::{self, Read, Write};
 use std::process::ExitCode;
 
-// How much is written at once.
+// How many bytes of an answer are written at once, at most.
 const PIECE: usize = 1024;
 
 /// Answers all that `input` gives: the text goes to `output`; what is wrong goes to `errors`, as a line, and the status says so.
@@ -47,11 +47,11 @@ fn write_answer<T: Placed + Drop, O: Write, E: Write>(
             Ok(ExitCode::SUCCESS)
         }
         Err(trouble) => {
-            let told = Explained { input, trouble };
+            let explained = Explained { input, trouble };
             // One write for the whole line, so that no other program's line gets between; where there is no memory for it, in parts.
-            match format!(in heap; "{told}\n") {
+            match format!(in heap; "{explained}\n") {
                 Ok(line) => errors.write_all(line.as_bytes())?,
-                Err(_) => writeln!(errors, "{told}")?,
+                Err(_) => writeln!(errors, "{explained}")?,
             }
             Ok(ExitCode::FAILURE)
         }

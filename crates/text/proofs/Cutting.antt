@@ -9,7 +9,7 @@ use Rattle.std.proofs.lemmas.List.Sums.{position_or_len_is}
 pub taken_len : {X : Type 0} (test : X → Bool) (xs : List X) → length (take (prefix_len test xs) xs) ≡ prefix_len test xs
 taken_len test xs = length-prefix_len test xs
 
--- none of the bytes from offset `from` to i passes, and the one at i does where there is one
+-- where none from offset `from` to i passes, and the one at i does if there is one, i is the first that passes, or the end
 pub first_at : (test : ℕ → Bool) (xs : List ℕ) (from i : ℕ) → from ≤ i → i ≤ length xs → ((k : ℕ) → from ≤ k → k < i → test (get_or xs k 0) ≡ false) → (i < length xs → test (get_or xs i 0) ≡ true) → i ≡ from + position_or_len test (drop from xs)
 first_at test xs from i behind within none here =
     let n = i - from in

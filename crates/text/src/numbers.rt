@@ -8,8 +8,8 @@ use crate::faults::{Fault, Problem};
 use crate::tokens::Token;
 
 // The number that `text` writes, cut off right above `most`; `None` where it writes none.
-// Not `str::parse`: that takes a `+` too. Cut off at a bound that a caller knows, numbers stay short: at `u128::MAX` each digit
-// would take half as long again.
+// Not `str::parse`: that takes a `+` too. Cut off at a bound that the caller knows, numbers stay short: cut off at `u128::MAX`
+// a digit takes up to 1.6 times as long.
 fn decimal(text: &[u8], most: u64) -> Option<u128>
     ensures { MatchOption result (is_number text.now ≡ false)
         (λ v. (is_number text.now ≡ true) × (v ≡ min (value_of text.now) (most + 1))) }

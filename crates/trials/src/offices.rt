@@ -113,7 +113,7 @@ impl Write for Counting {
 }
 
 #[test]
-fn a_line_is_one_write_and_a_long_text_some(rt: HostRuntime) -> Result<(), Fail> {
+fn a_line_goes_out_in_one_write_and_a_text_in_pieces(rt: HostRuntime) -> Result<(), Fail> {
     let mut output = Counting {
         writes: 0,
         longest: 0,
