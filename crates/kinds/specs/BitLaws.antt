@@ -16,7 +16,7 @@ use Rattle.kinds.specs.declared.bitwise.W.{W}
 pub same_bits : (x y : W) → x.bits ≡ y.bits → x ≡ y
 same_bits x y e = λ i. record { bits = e i; fits = is_prop→PathP (λ j. e j < 2 ^ 32) (λ j. le_prop) x.fits y.fits i }
 
--- the element of a number of 32 bits has these bits
+-- an element is that of its bits
 pub of_bits_is : (x : W) (b : ℕ) → b < 2 ^ 32 → x.bits ≡ b → x ≡ of_bits b
 of_bits_is x b small e = same_bits x (of_bits b) (omega arith)
 
@@ -90,6 +90,6 @@ halves_element (a ∷ b ∷ c ∷ ws) h = absurd (omega (arith, h.counted))
 pub codes : Codes coding
 codes = record {
   readable = λ x. record { counted = refl; small = halves_small x };
-  element_words = λ x. let f = x.fits in same_bits _ _ (omega arith);
+  element_words = λ x. let f = x.fits in sym (of_bits_is x _ (omega arith) (omega arith));
   words_element = halves_element;
 }

@@ -43,7 +43,7 @@ words NoFreeCell = codes "no free cell"
 words ListAtEnd = codes "the list is at its end"
 words NotInvertible = codes "no inverse"
 
--- the values that come along
+-- the values that come along, as they are printed: element and exponent, or nothing
 abbrev pub values : List ℕ → List ℕ
 values [] = []
 values (element ∷ []) = []

@@ -1,8 +1,8 @@
 //! A program that answers what it reads.
 ghost use Rattle.std.specs.Prelude.{◌≡◌, List, ℕ, IfOk, IfSome};
+ghost use Rattle.std.specs.Io.KnownBytes.{Appends};
 ghost use Rattle.programs.specs.Explaining.{told};
 ghost use Rattle.programs.specs.Serving.{Writes};
-ghost use Rattle.std.specs.Io.KnownBytes.{Appends};
 
 use crate::explaining::{Explained, Placed};
 use std::alloc::Global;

@@ -1,4 +1,4 @@
--- No byte before it ends them, and the one at it does, or none is left.
+-- `ends` holds for no byte before the offset, and for the one at it, or none is left.
 use Rattle.std.proofs.Common.{◌≡◌, length, true, false, get_or, sym, ap, ◌∙◌, arith, inl, inr}
 use Rattle.std.proofs.lemmas.Bool.{cases_lt}
 use Rattle.text.proofs.Cutting.{first_at, none_ahead}

@@ -1,4 +1,4 @@
--- None of the bytes so far ends them.
+-- `ends` holds for none of the bytes so far.
 use Rattle.std.proofs.Common.{◌≡◌, ℕ, ◌<◌, ◌≤◌, Bool, false, get_or}
 use Rattle.text.specs.Cuts.{IsTest}
 use Rattle.text.proofs.cuts.end.Given as goal
